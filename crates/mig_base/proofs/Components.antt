@@ -1,7 +1,8 @@
 -- Components by labels: each disk has the least disk of its component as its label.
-use Rattle.mig_base.proofs.Common.{All, All-filter, AllPairs, Bool, IsClosed, IsComponent, IsTrue, List, Transfers, [], ap, arith, cases_lt, cond, eq-eqb, eqb, eqb-true, false, false≢true}
-use Rattle.mig_base.proofs.Common.{filter, filter_passes, get_or, get_or-range_with_len, has, inl, inr, length, length-range_with_len, nat_tests, or_right, range_with_len, refl, subst, suc, sym}
-use Rattle.mig_base.proofs.Common.{takes_part, true, zero, ℕ, ◌&&◌, ◌+◌, ◌<◌, ◌||◌, ◌∙◌, ◌∷◌, ◌≡◌, ◌≤◌, ◌⊎◌}
+use Rattle.mig_base.proofs.Common.{All, All-filter, AllPairs, Bool, IsClosed, IsComponent, IsTrue, List, Transfers, [], ap, arith, cases_lt, cond}
+use Rattle.mig_base.proofs.Common.{eq-eqb, eqb, eqb-true, false, false≢true, AllPairs-filter, filter, filter_passes, get_or, get_or-range_with_len}
+use Rattle.mig_base.proofs.Common.{has, inl, inr, length, length-range_with_len, or_right, range_with_len, refl, subst, suc, sym, takes_part, true}
+use Rattle.mig_base.proofs.Common.{zero, ℕ, ◌&&◌, ◌+◌, ◌<◌, ◌||◌, ◌∙◌, ◌∷◌, ◌≡◌, ◌≤◌, ◌⊎◌}
 use Rattle.mig_base.proofs.Scheduled.{range_below}
 
 -- the disks with this label
@@ -18,9 +19,6 @@ pub record AreLabels (graph : Transfers) (labels : List ℕ) : Type 0 where
 pub has_kept : (b : Bool) (x : ℕ) (xs : List ℕ) (v : ℕ) → has (cond b (x ∷ xs) xs) v ≡ (b && eqb x v) || has xs v
 has_kept true x xs v = refl
 has_kept false x xs v = refl
-
-apart : (a b : ℕ) → a < b → eqb a b ≡ false
-apart a b h = grind (arith, nat_tests)
 
 and_cases : (b c d : Bool) → ((b && c) || d) ≡ true → ((b ≡ true) × (c ≡ true)) ⊎ (d ≡ true)
 and_cases true true d h = inl (refl, refl)
@@ -47,22 +45,10 @@ bool_same true c f g = sym (f refl)
 bool_same false true f g = g refl
 bool_same false false f g = refl
 
-pairs_cons : (x : ℕ) (xs : List ℕ) → All (λ y. x < y) xs → AllPairs (λ y z. y < z) xs → AllPairs (λ y z. y < z) (x ∷ xs)
-pairs_cons x xs all rest zero zero d l h = absurd (omega (arith, l))
-pairs_cons x xs all rest zero (suc j) d l h = all j d (omega (arith, h))
-pairs_cons x xs all rest (suc i) zero d l h = absurd (omega (arith, l))
-pairs_cons x xs all rest (suc i) (suc j) d l h = rest i j d (omega (arith, l)) (omega (arith, h))
-
-range_from : (a n : ℕ) → All (λ v. a ≤ v) (range_with_len a n)
-range_from a n = λ k d h. omega (arith, get_or-range_with_len a n k d (omega (arith, h, length-range_with_len a n)))
-
-kept_increasing : (b : Bool) (x : ℕ) (xs : List ℕ) → All (λ y. x < y) xs → AllPairs (λ y z. y < z) xs → AllPairs (λ y z. y < z) (cond b (x ∷ xs) xs)
-kept_increasing true x xs all rest = pairs_cons x xs all rest
-kept_increasing false x xs all rest = rest
-
 pub increasing_filter : (p : ℕ → Bool) (a n : ℕ) → AllPairs (λ y z. y < z) (filter p (range_with_len a n))
-increasing_filter p a zero = λ i j d l h. absurd (omega (arith, h))
-increasing_filter p a (suc n) = kept_increasing (p a) a (filter p (range_with_len (a + 1) n)) (λ k d h. omega (arith, All-filter p (λ v. a + 1 ≤ v) (range_with_len (a + 1) n) (range_from (a + 1) n) k d h)) (increasing_filter p (a + 1) n)
+increasing_filter p a n = AllPairs-filter (λ y z. y < z) p (range_with_len a n) (λ i j d l h.
+    let in_list : j < n = omega (arith, h, length-range_with_len a n) in
+    omega (arith, l, get_or-range_with_len a n i d (omega (arith, l, in_list)), get_or-range_with_len a n j d in_list))
 
 filled_set : (set : List ℕ) (v : ℕ) → has set v ≡ true → 0 < length set
 filled_set [] v h = absurd (false≢true h)

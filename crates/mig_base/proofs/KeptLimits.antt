@@ -1,9 +1,9 @@
 -- What disks' limits say of transfers, by the kind of the limits.
 use Rattle.mig_base.proofs.Common.{All, Bool, Disk, Incoming, InputLists, IsInRange, IsInput, IsOverLimit, Joint, KeepsLimit, Limits, List, Outgoing, Side, Split, Transfer, [], ap, arith}
 use Rattle.mig_base.proofs.Common.{count_by, disk_at, div_ceil, div_ceil_times, eqb, false, false≢true, inl, inr, is_duplex, is_split, length, load, max, min, most_ends, mul-le-mul_right}
-use Rattle.mig_base.proofs.Common.{no_disk, passes, refl, rounds_for, side_limit, side_load, suc, sum_by-cons, sym, touches, true, zero, ℕ, ◌%◌, ◌*◌, ◌+◌, ◌/◌, ◌<◌, ◌||◌, ◌∙◌, ◌∷◌, ◌≡◌}
-use Rattle.mig_base.proofs.Common.{◌≤◌}
-use Rattle.mig_base.proofs.Counting.{one}
+use Rattle.mig_base.proofs.Common.{no_disk, passes, refl, rounds_for, side_limit, side_load, suc, sum_by-cons, sym, touches}
+use Rattle.mig_base.proofs.Common.{zero, ℕ, ◌%◌, ◌*◌, ◌+◌, ◌/◌, ◌<◌, ◌||◌, ◌∙◌, ◌∷◌, ◌≡◌, nat_tests, ◌≤◌}
+use Rattle.mig_base.proofs.Counting.{one, one_of_two}
 
 -- with fewer transfers of each kind limits are kept too
 pub keeps_fewer : (limits : Limits) (v : ℕ) (some all : List Transfer) → ((p : Transfer → Bool) → count_by p some ≤ count_by p all) → KeepsLimit limits v all → KeepsLimit limits v some
@@ -21,27 +21,22 @@ pub side_in_load : (side : Side) (v : ℕ) (transfers : List Transfer) → side_
 side_in_load side v [] = omega arith
 side_in_load side v (t ∷ ts) = omega (arith, sum_by-cons (λ u. one (passes side v u)) t ts, sum_by-cons (λ u. one (touches v u)) t ts, side_in_load side v ts, each side)
   where
+    left : (a b : Bool) → one a ≤ one (a || b)
+    left a b = grind (arith, nat_tests)
+
+    right : (a b : Bool) → one b ≤ one (a || b)
+    right a b = grind (arith, nat_tests)
+
     each : (side : Side) → one (passes side v t) ≤ one (touches v t)
     each Outgoing = left (eqb v t.leaves) (eqb v t.reaches)
-      where
-        left : (a b : Bool) → one a ≤ one (a || b)
-        left true b = omega arith
-        left false b = omega arith
     each Incoming = right (eqb v t.leaves) (eqb v t.reaches)
-      where
-        right : (a b : Bool) → one b ≤ one (a || b)
-        right true true = omega arith
-        right true false = omega arith
-        right false b = omega arith
 
 pub load_in_sides : (v : ℕ) (transfers : List Transfer) → load v transfers ≤ side_load Outgoing v transfers + side_load Incoming v transfers
 load_in_sides v [] = omega arith
 load_in_sides v (t ∷ ts) =
-    omega (arith, sum_by-cons (λ u. one (passes Outgoing v u)) t ts, sum_by-cons (λ u. one (passes Incoming v u)) t ts, sum_by-cons (λ u. one (touches v u)) t ts, load_in_sides v ts, either (eqb v t.leaves) (eqb v t.reaches))
-  where
-    either : (a b : Bool) → one (a || b) ≤ one a + one b
-    either true b = omega arith
-    either false b = omega arith
+    let leaving = sum_by-cons (λ u. one (passes Outgoing v u)) t ts in
+    let reaching = sum_by-cons (λ u. one (passes Incoming v u)) t ts in
+    omega (arith, leaving, reaching, sum_by-cons (λ u. one (touches v u)) t ts, load_in_sides v ts, one_of_two (eqb v t.leaves) (eqb v t.reaches))
 
 -- kept limits bound the load, and the load of each side
 pub keeps_ends : (limits : Limits) (v : ℕ) (transfers : List Transfer) → KeepsLimit limits v transfers → load v transfers ≤ most_ends limits
@@ -67,10 +62,6 @@ ends_positive (Split outgoing incoming) range = omega (arith, range.0.0)
 pub ends_small : (limits : Limits) → IsInRange limits → most_ends limits ≤ 2048
 ends_small (Joint limit) range = omega (arith, range.1)
 ends_small (Split outgoing incoming) range = omega (arith, range.0.1, range.1.1)
-
-pub joint_small : (limits : Limits) → IsInRange limits → is_split limits ≡ false → most_ends limits ≤ 1024
-joint_small (Joint limit) range joint = range.1
-joint_small (Split outgoing incoming) range joint = absurd (false≢true (sym joint))
 
 pub side_small : (side : Side) (limits : Limits) → IsInRange limits → side_limit side limits ≤ 1024
 side_small side (Joint limit) range = range.1

@@ -1,17 +1,8 @@
 -- A load is within the quotient by lowered limits times the lowered limit.
-use Rattle.mig_base.proofs.Common.{ℕ, suc, zero, ◌*◌, ◌<◌, ◌≤◌, List, [], ◌∷◌, length, map, get_or, arith, range_with_len}
-use Rattle.mig_base.proofs.Common.{length-map-range_with_len, get_or-map-range_with_len, mul-le-mul_right, div_ceil_times, div_ceil, load, Transfers}
-use Rattle.std.proofs.Common.{fold, max}
+use Rattle.mig_base.proofs.Common.{ℕ, ◌*◌, ◌<◌, ◌≤◌, length, map, arith, range_with_len, length-map-range_with_len, get_or-map-range_with_len}
+use Rattle.mig_base.proofs.Common.{mul-le-mul_right, div_ceil_times, div_ceil, load, Transfers}
+use Rattle.mig_base.proofs.Copies.{greatest_has}
 use Rattle.mig_base.specs.Lowered.{lowered_limit, lowered_quotient}
-
-greatest_from : (a : ℕ) (xs : List ℕ) → a ≤ fold max a xs
-greatest_from a [] = omega arith
-greatest_from a (x ∷ xs) = omega (arith, greatest_from (max a x) xs)
-
-greatest_has : (a : ℕ) (xs : List ℕ) (k : ℕ) → k < length xs → get_or xs k 0 ≤ fold max a xs
-greatest_has a [] k h = absurd (omega (arith, h))
-greatest_has a (x ∷ xs) zero h = omega (arith, greatest_from (max a x) xs)
-greatest_has a (x ∷ xs) (suc k) h = greatest_has (max a x) xs k (omega (arith, h))
 
 pub value_within_lowered : (graph : Transfers) (v : ℕ) → v < length graph.disks → div_ceil (load v graph.transfers) (lowered_limit graph v) ≤ lowered_quotient graph
 value_within_lowered graph v there =

@@ -9,9 +9,6 @@ pub record AreMarked (rounds : ℕ) (image : Image) (k : ℕ) : Type 0 where
   pub next : k < rounds → is_marked image (suc k) ≡ false
 
 module _ (rounds : ℕ) (image : Image) where
-  marks : ℕ
-  marks = prefix_len (is_marked image) (range_with_len 1 rounds)
-
   number : (j : ℕ) → j < rounds → get_or (range_with_len 1 rounds) j 0 ≡ suc j
   number j lt = get_or-range_with_len 1 rounds j 0 lt ∙ (let e : 1 + j ≡ suc j = omega arith in e)
 

@@ -1,20 +1,14 @@
 -- Where each disk has room, a slot is free for each item that comes: as many slots as a disk has can't all be taken.
-use Rattle.mig_base.proofs.Common.{AreTargets, Bool, Contains, Disk, InputLists, IsInput, IsLowestFree, IsRoomy, IsSomeAnd, IsSpotOf, List, Spot, ap, arith, cases_lt, count_by, disk_at, eq-eqb, eqb}
-use Rattle.mig_base.proofs.Common.{false, get_or, get_or-le-sum_by, get_or-take, incoming, inl, inr, length, length-take-le, ltb, move_at, moves, nat_tests, no_disk, no_spot, present, refl}
-use Rattle.mig_base.proofs.Common.{slice_get, slice_get-get_or, subst, suc, sum_by-append, sum_by-take-le, sum_by_push, sym, take, take_more, target, target_at, true, zero, ℕ, ◌&&◌, ◌++◌, ◌+◌}
-use Rattle.mig_base.proofs.Common.{◌<◌, ◌∙◌, ◌≡◌, ◌≤◌}
+use Rattle.mig_base.proofs.Common.{AreTargets, Bool, Contains, InputLists, IsInput, IsLowestFree, IsRoomy, IsSpotOf, List, Spot, ap, arith, cases_lt}
+use Rattle.mig_base.proofs.Common.{count_by, disk_at, eq-eqb, eqb, get_or, get_or-le-sum_by, get_or-take, incoming, inl, inr, length, length-take-le}
+use Rattle.mig_base.proofs.Common.{ltb, move_at, moves, nat_tests, no_spot, present, refl, slice_get-get_or, subst, suc, sum_by-append}
+use Rattle.mig_base.proofs.Common.{sum_by-take-le, sum_by_push, sym, take, take_more, target, target_at, zero, ℕ, ◌&&◌, ◌++◌, ◌+◌, ◌<◌, ◌∙◌, ◌≡◌, ◌≤◌}
 use Rattle.mig_base.proofs.Counting.{one, sum_by-le_each, sum_by-add, count_same}
 use Rattle.mig_base.proofs.Scheduled.{moves_there}
+use Rattle.mig_base.proofs.SlotCounts.{one_more, spot_is_of, under}
 
 abbrev pub spot : ℕ → ℕ → Spot
 spot v s = record { disk = record { 0 = v }; slot = s }
-
--- a spot of the disk at a slot below n
-abbrev under : ℕ → ℕ → Spot → Bool
-under d n s = eqb s.disk.0 d && ltb s.slot n
-
-one_more : (b : Bool) (m n : ℕ) → one (b && ltb m (n + 1)) ≡ one (b && ltb m n) + one (b && eqb m n)
-one_more b m n = grind (arith, nat_tests)
 
 itself : (d n : ℕ) → one (eqb d d && eqb n n) ≡ 1
 itself d n = grind (arith, nat_tests)
@@ -26,19 +20,17 @@ fills d (suc n) xs h =
     let f : Spot → ℕ = λ s. one (eqb s.disk.0 d && eqb s.slot n) in
     let here = get_or-le-sum_by f xs last.0 (spot d n) last.1 in
     let is : f (get_or xs last.0 (spot d n)) ≡ 1 = ap f last.2 ∙ itself d n in
-    let all = sum_by-le_each (λ s. one (under d n s) + f s) (λ s. one (under d (n + 1) s)) xs (λ k e l. omega (arith, one_more (eqb (get_or xs k e).disk.0 d) (get_or xs k e).slot n)) in
+    let all = sum_by-le_each (λ s. one (under d n s) + f s) (λ s. one (under d (suc n) s)) xs (λ k e l.
+    omega (arith, one_more (eqb (get_or xs k e).disk.0 d) (get_or xs k e).slot n)) in
     let split = sum_by-add (λ s. one (under d n s)) f xs in
-    let next : suc n ≡ n + 1 = omega arith in
-    subst (λ m. m ≤ count_by (under d m) xs) (sym next) (omega (arith, fills d n xs (λ k l. h k (omega arith)), here, is, all, split))
+    omega (arith, fills d n xs (λ k l. h k (omega arith)), here, is, all, split)
 
 -- where the list has each slot of a disk below n, it has n spots of the disk
 pub pigeons : (d n : ℕ) (xs : List Spot) → ((k : ℕ) → k < n → Contains xs (spot d k)) → n ≤ count_by (λ s. eqb s.disk.0 d) xs
 pigeons d n xs h = omega (arith, fills d n xs h, sum_by-le_each (λ (s : Spot). one (under d n s)) (λ s. one (eqb s.disk.0 d)) xs (λ k e l. less (eqb (get_or xs k e).disk.0 d) (ltb (get_or xs k e).slot n)))
   where
     less : (a b : Bool) → one (a && b) ≤ one a
-    less true true = omega arith
-    less true false = omega arith
-    less false b = omega arith
+    less a b = grind (arith, nat_tests)
 
 -- The spots that the moves before this one are given, and those that items have, leave one of so many slots of its disk
 pub some_free : (input : InputLists) (move : ℕ) (earlier : List Spot) (v slots : ℕ) → present input v + incoming input v ≤ slots → move < length (moves input) → length earlier ≡ move → ((k : ℕ) → k < move → (target_at earlier k).disk.0 ≡ target input (move_at input k)) → target input (move_at input move) ≡ v → ((s : ℕ) → s < slots → Contains (input.spots ++ earlier) (spot v s)) → ⊥
@@ -67,14 +59,10 @@ module _ (input : InputLists) (targets : List Spot) (a : AreTargets input target
       let slots = (disk_at input.disks v).slots in
       let short : length (take move targets) ≡ move = length-take-le move targets (omega (arith, h, a.len)) in
       elim (cases_lt (target_at targets move).slot slots) [
-        | inl less ↦ on_disk t.on_disk there less
+        | inl less ↦ spot_is_of input.disks (target_at targets move) (omega (arith, there, t.on_disk)) (
+            subst (λ w. (target_at targets move).slot < (disk_at input.disks w).slots) (sym t.on_disk) less)
         | inr ge ↦ absurd (some_free input move (take move targets) v slots (roomy v there) h short
             (λ k l. ap (λ (s : Spot). s.disk.0) (get_or-take move targets k no_spot l) ∙ (lowest_at k (omega (arith, l, h))).on_disk)
             refl
             (λ s l. subst (λ (d : ℕ). Contains (input.spots ++ take move targets) (spot d s)) t.on_disk (t.lowest s (omega (arith, l, ge)))))
       ]
-    where
-      on_disk : {u : Spot} {v : ℕ} → u.disk.0 ≡ v → v < length input.disks → u.slot < (disk_at input.disks v).slots → IsSpotOf input.disks u
-      on_disk {u} {v} same there less =
-          subst (λ (n : ℕ). IsSomeAnd (slice_get input.disks n) (λ (d : Disk). u.slot < d.slots)) (sym same)
-          (subst (λ o. IsSomeAnd o (λ (d : Disk). u.slot < d.slots)) (sym (slice_get-get_or input.disks v no_disk there)) less)

@@ -4,8 +4,9 @@ use Rattle.mig_base.proofs.Common.{count_by, eq-eqb, eqb, eqb-true, false, false
 use Rattle.mig_base.proofs.Common.{last_target, length, length-range_with_len, list_any, map, moves, nat_tests, no_spot, not, option_map, option_or, passes_at_first, position_or_len}
 use Rattle.mig_base.proofs.Common.{range_with_len, refl, round_at, round_of, shift_count, slice_get, slice_get-get_or, source, subst, suc, sum_by, sum_by-cons, sym, target, transfer}
 use Rattle.mig_base.proofs.Common.{transfer_of, transfers_in, true, zero, ℕ, ◌&&◌, ◌+◌, ◌-◌, ◌<◌, ◌||◌, ◌∙◌, ◌∷◌, ◌≡◌, ◌≢◌, ◌≤◌}
+use Rattle.mig_base.proofs.Copies.{count_by-le-one}
 use Rattle.mig_base.proofs.KeptLimits.{keeps_fewer}
-use Rattle.mig_base.proofs.Counting.{sum_by-map, sum_by-le_each, sum_by-none, sum_by-swap, one, count_by-filter-le, at_most_one}
+use Rattle.mig_base.proofs.Counting.{sum_by-map, sum_by-le_each, sum_by-none, sum_by-swap, one, count_by-filter-le}
 
 -- each passing number is the key of some passing element, and no number stands twice: then no more numbers pass than elements
 pub count_by-keyed : {Y : Type 0} (p : ℕ → Bool) (q : Y → Bool) (key : Y → ℕ) (ms : List ℕ) (ys : List Y) → ((k : ℕ) → count_by (λ m. eqb m k) ms ≤ 1) → All (λ m. one (p m) ≤ count_by (λ y. eqb m (key y) && q y) ys) ms → count_by p ms ≤ count_by q ys
@@ -18,13 +19,11 @@ count_by-keyed p q key ms ys apart each =
     held true k ms h = omega (arith, h, sum_by-le_each (λ m. one (eqb m k && true)) (λ m. one (eqb m k)) ms (λ j d _. same (eqb (get_or ms j d) k)))
       where
         same : (b : Bool) → one (b && true) ≤ one b
-        same true = omega arith
-        same false = omega arith
+        same b = grind (arith, nat_tests)
     held false k ms h = omega (arith, sum_by-none ms, sum_by-le_each (λ m. one (eqb m k && false)) (λ m. 0) ms (λ j d _. same (eqb (get_or ms j d) k)))
       where
         same : (b : Bool) → one (b && false) ≤ 0
-        same true = omega arith
-        same false = omega arith
+        same b = grind (arith, nat_tests)
 
 none_left : (o : Option Spot) (b : Bool) (x : Spot) → o ≡ None → one b ≡ 0 → option_or o (cond b (Some x) None) ≡ None
 none_left o true x e h = absurd (omega (arith, h))
@@ -184,22 +183,12 @@ shifted_first plan m once =
 pub transfer_counted : (input : InputLists) (plan : List (List Shift)) (m k : ℕ) → IsInput input → Runs input plan → m < length input.items → k < length plan → IsShiftedAt plan m k → (p : Transfer → Bool) → one (p (transfer input m)) ≤ count_by (λ s. eqb m s.item.0 && p (transfer_of s)) (round_at plan (suc k))
 transfer_counted input plan m k valid runs there within at p = counted_shift input plan m k valid runs there within at (shifted_round (round_at plan (suc k)) m at.here) p
 
-not_in_range : (a n k : ℕ) → k < a → count_by (λ m. eqb m k) (range_with_len a n) ≡ 0
-not_in_range a zero k h = refl
-not_in_range a (suc n) k h = omega (arith, sum_by-cons (λ m. one (eqb m k)) a (range_with_len (a + 1) n), not_in_range (a + 1) n k (omega arith), other a k h)
-  where
-    other : (a k : ℕ) → k < a → one (eqb a k) ≡ 0
-    other a k h = grind (arith, nat_tests)
-
 pub once_in_range : (a n k : ℕ) → count_by (λ m. eqb m k) (range_with_len a n) ≤ 1
-once_in_range a zero k = omega arith
-once_in_range a (suc n) k = elim (cases_lt k (a + 1)) [
-  | inl l ↦ omega (arith, sum_by-cons (λ m. one (eqb m k)) a (range_with_len (a + 1) n), not_in_range (a + 1) n k l, at_most_one (eqb a k))
-  | inr l ↦ omega (arith, sum_by-cons (λ m. one (eqb m k)) a (range_with_len (a + 1) n), once_in_range (a + 1) n k, other a k l)
-]
-  where
-    other : (a k : ℕ) → a + 1 ≤ k → one (eqb a k) ≡ 0
-    other a k h = grind (arith, nat_tests)
+once_in_range a n k = count_by-le-one (λ m. eqb m k) (range_with_len a n) (λ i j d l m h g.
+    let in_list : j < n = omega (arith, m, length-range_with_len a n) in
+    let i_at = get_or-range_with_len a n i d (omega (arith, l, in_list)) in
+    let j_at = get_or-range_with_len a n j d in_list in
+    absurd (omega (arith, l, i_at, j_at, eqb-true (get_or (range_with_len a n) i d) k h, eqb-true (get_or (range_with_len a n) j d) k g)))
 
 pub range_below : (n : ℕ) → All (λ m. m < n) (range_with_len 0 n)
 range_below n = λ k d h. omega (arith, get_or-range_with_len 0 n k d (omega (arith, h, length-range_with_len 0 n)), length-range_with_len 0 n, h)

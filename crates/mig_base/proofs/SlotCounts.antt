@@ -22,9 +22,8 @@ spot_is_of disks spot there less = at disks spot.disk.0 there less
     at (d ∷ ds) zero there less = less
     at (d ∷ ds) (suc k) there less = at ds k (omega (arith, there)) less
 
--- spots of one disk below n
-
-abbrev under : ℕ → ℕ → Spot → Bool
+-- a spot of the disk at a slot below n
+abbrev pub under : ℕ → ℕ → Spot → Bool
 under d n s = eqb s.disk.0 d && ltb s.slot n
 
 abbrev at_slot : ℕ → ℕ → Spot → Bool
@@ -33,7 +32,7 @@ at_slot d n s = eqb s.disk.0 d && eqb s.slot n
 none_under : (b : Bool) (m : ℕ) → one (b && ltb m 0) ≤ 0
 none_under b m = grind (arith, nat_tests)
 
-one_more : (b : Bool) (m n : ℕ) → one (b && ltb m (suc n)) ≤ one (b && ltb m n) + one (b && eqb m n)
+pub one_more : (b : Bool) (m n : ℕ) → one (b && ltb m (suc n)) ≡ one (b && ltb m n) + one (b && eqb m n)
 one_more b m n = grind (arith, nat_tests)
 
 both : (a d m n : ℕ) → eqb a d && eqb m n ≡ true → (a ≡ d) × (m ≡ n)
@@ -43,7 +42,8 @@ under_few : (d n : ℕ) (xs : List Spot) → AreDifferent xs → count_by (under
 under_few d zero xs apart = omega (arith, sum_by-le_each (λ (s : Spot). one (under d 0 s)) (λ s. 0) xs (λ k e l. none_under (eqb (get_or xs k e).disk.0 d) (get_or xs k e).slot), sum_by-none xs)
 under_few d (suc n) xs apart =
     let f : Spot → ℕ = λ s. one (at_slot d n s) in
-    let all = sum_by-le_each (λ (s : Spot). one (under d (suc n) s)) (λ s. one (under d n s) + f s) xs (λ k e l. one_more (eqb (get_or xs k e).disk.0 d) (get_or xs k e).slot n) in
+    let all = sum_by-le_each (λ (s : Spot). one (under d (suc n) s)) (λ s. one (under d n s) + f s) xs (λ k e l.
+    omega (arith, one_more (eqb (get_or xs k e).disk.0 d) (get_or xs k e).slot n)) in
     let split = sum_by-add (λ (s : Spot). one (under d n s)) f xs in
     let here = count_by-le-one (at_slot d n) xs (λ i j e l m h g. apart i j e l m (same (get_or xs i e) (get_or xs j e) h g)) in
     omega (arith, all, split, here, under_few d n xs apart)

@@ -1,4 +1,5 @@
 -- How many colours are present at a node, against its degree.
+use Rattle.std.proofs.Math.Logic.{⊎_swap}
 use Rattle.mig_board.proofs.Common.{Bool, Colour, Colouring, CopyId, EdgeId, HasNoCommon, IsFull, IsPresent, Joins, List, None, Option, Some, [], ap, arith, cond, count_by, degree_of, eq-eqb}
 use Rattle.mig_board.proofs.Common.{eqb, eqb_tells, false, inl, inr, is_end, none-some, one, or_left, or_right, refl, same_Some, slice_get, suc, sum_by-cons, true, zero, ℕ, ◌*◌, ◌+◌, ◌<◌, ◌∙◌}
 use Rattle.mig_board.proofs.Common.{◌∷◌, ◌≡◌, ◌≤◌, ◌⊎◌}
@@ -11,17 +12,11 @@ abbrev pub is_plain : Option Colour → Bool
 is_plain None = true
 is_plain (Some c) = false
 
--- how many edges at v have colour k
-abbrev pub tally : CopyId → ℕ → List (CopyId × CopyId) → List (Option Colour) → ℕ
-tally v k [] cs = 0
-tally v k (p ∷ ps) [] = 0
-tally v k (p ∷ ps) (c ∷ cs) = cond (is_end v p) (cond (has_hue k c) 1 0) 0 + tally v k ps cs
-
--- how many edges at v have none
-abbrev pub plain_tally : CopyId → List (CopyId × CopyId) → List (Option Colour) → ℕ
-plain_tally v [] cs = 0
-plain_tally v (p ∷ ps) [] = 0
-plain_tally v (p ∷ ps) (c ∷ cs) = cond (is_end v p) (cond (is_plain c) 1 0) 0 + plain_tally v ps cs
+-- how many edges at v have a colour, or none, that passes the test
+abbrev pub tally : (Option Colour → Bool) → CopyId → List (CopyId × CopyId) → List (Option Colour) → ℕ
+tally test v [] cs = 0
+tally test v (p ∷ ps) [] = 0
+tally test v (p ∷ ps) (c ∷ cs) = cond (is_end v p) (cond (test c) 1 0) 0 + tally test v ps cs
 
 -- the sum of f over the numbers below n
 abbrev pub sum_to : (ℕ → ℕ) → ℕ → ℕ
@@ -56,12 +51,14 @@ hue_total true None n = omega (arith, sum_to-zero n)
 hue_total true (Some c) n = omega (arith, (sum_to-one c.0 n).0)
 hue_total false c n = omega (arith, sum_to-zero n)
 
-pub tally_total : (v : CopyId) (ps : List (CopyId × CopyId)) (cs : List (Option Colour)) (n : ℕ) → sum_to (λ k. tally v k ps cs) n + plain_tally v ps cs ≤ count_by (is_end v) ps
+pub tally_total : (v : CopyId) (ps : List (CopyId × CopyId)) (cs : List (Option Colour)) (n : ℕ)
+    → sum_to (λ k. tally (has_hue k) v ps cs) n + tally is_plain v ps cs ≤ count_by (is_end v) ps
 tally_total v [] cs n = omega (arith, sum_to-zero n)
 tally_total v (p ∷ ps) [] n = omega (arith, sum_to-zero n)
 tally_total v (p ∷ ps) (c ∷ cs) n =
     let e : ◌≡◌ {A = ℕ} (count_by (is_end v) (p ∷ ps)) (cond (is_end v p) 1 0 + count_by (is_end v) ps) = sum_by-cons (λ x. one (is_end v x)) p ps in
-    omega (arith, sum_to-add (λ k. cond (is_end v p) (cond (has_hue k c) 1 0) 0) (λ k. tally v k ps cs) n, hue_total (is_end v p) c n, tally_total v ps cs n, e)
+    let sums = sum_to-add (λ k. cond (is_end v p) (cond (has_hue k c) 1 0) 0) (λ k. tally (has_hue k) v ps cs) n in
+    omega (arith, sums, hue_total (is_end v p) c n, tally_total v ps cs n, e)
 
 -- ---- a colour that is present is counted
 
@@ -71,50 +68,39 @@ is_end_first v w = or_left (eqb v.0 v.0) (eqb w.0 v.0) (eq-eqb v.0 v.0 refl)
 is_end_second : (v w : CopyId) → is_end v (w, v) ≡ true
 is_end_second v w = or_right (eqb w.0 v.0) (eqb v.0 v.0) (eq-eqb v.0 v.0 refl)
 
-tally_at : (v : CopyId) (k : ℕ) (ps : List (CopyId × CopyId)) (cs : List (Option Colour)) (i : ℕ) (p : CopyId × CopyId) (c : Option Colour) → slice_get ps i ≡ Some p → slice_get cs i ≡ Some c → is_end v p ≡ true → has_hue k c ≡ true → 1 ≤ tally v k ps cs
-tally_at v k [] cs i p c hp hc he hh = absurd (none-some p hp)
-tally_at v k (q ∷ ps) [] i p c hp hc he hh = absurd (none-some c hc)
-tally_at v k (q ∷ ps) (d ∷ cs) zero p c hp hc he hh =
+tally_at : (test : Option Colour → Bool) (v : CopyId) (ps : List (CopyId × CopyId)) (cs : List (Option Colour)) (i : ℕ)
+    (p : CopyId × CopyId) (c : Option Colour) → slice_get ps i ≡ Some p → slice_get cs i ≡ Some c → is_end v p ≡ true
+    → test c ≡ true → 1 ≤ tally test v ps cs
+tally_at test v [] cs i p c hp hc he hh = absurd (none-some p hp)
+tally_at test v (q ∷ ps) [] i p c hp hc he hh = absurd (none-some c hc)
+tally_at test v (q ∷ ps) (d ∷ cs) zero p c hp hc he hh =
     let e : is_end v q ≡ true = ap (is_end v) (same_Some q p hp) ∙ he in
-    let h : has_hue k d ≡ true = ap (has_hue k) (same_Some d c hc) ∙ hh in
-    let one : ◌≡◌ {A = ℕ} (cond (is_end v q) (cond (has_hue k d) 1 0) 0) 1 = ap (λ t. cond {A = ℕ} t (one (has_hue k d)) 0) e ∙ ap one h in
+    let h : test d ≡ true = ap test (same_Some d c hc) ∙ hh in
+    let one : ◌≡◌ {A = ℕ} (cond (is_end v q) (cond (test d) 1 0) 0) 1 = ap (λ t. cond {A = ℕ} t (one (test d)) 0) e ∙ ap one h in
     omega (arith, one)
-tally_at v k (q ∷ ps) (d ∷ cs) (suc i) p c hp hc he hh = omega (arith, tally_at v k ps cs i p c hp hc he hh)
+tally_at test v (q ∷ ps) (d ∷ cs) (suc i) p c hp hc he hh = omega (arith, tally_at test v ps cs i p c hp hc he hh)
 
-plain_at : (v : CopyId) (ps : List (CopyId × CopyId)) (cs : List (Option Colour)) (i : ℕ) (p : CopyId × CopyId) → slice_get ps i ≡ Some p → slice_get cs i ≡ Some None → is_end v p ≡ true → 1 ≤ plain_tally v ps cs
-plain_at v [] cs i p hp hc he = absurd (none-some p hp)
-plain_at v (q ∷ ps) [] i p hp hc he = absurd (none-some None hc)
-plain_at v (q ∷ ps) (d ∷ cs) zero p hp hc he =
-    let e : is_end v q ≡ true = ap (is_end v) (same_Some q p hp) ∙ he in
-    let h : is_plain d ≡ true = ap is_plain (same_Some d None hc) in
-    let one : ◌≡◌ {A = ℕ} (cond (is_end v q) (cond (is_plain d) 1 0) 0) 1 = ap (λ t. cond {A = ℕ} t (one (is_plain d)) 0) e ∙ ap one h in
-    omega (arith, one)
-plain_at v (q ∷ ps) (d ∷ cs) (suc i) p hp hc he = omega (arith, plain_at v ps cs i p hp hc he)
+tally_joined : (g : Colouring) (test : Option Colour → Bool) (v w : CopyId) (e : EdgeId) (c : Option Colour) → Joins g e v w
+    → slice_get g.painted e.0 ≡ Some c → test c ≡ true → 1 ≤ tally test v g.ends g.painted
+tally_joined g test v w e c j had pass =
+    elim j [
+      | inl r ↦ tally_at test v g.ends g.painted e.0 (v, w) c r had (is_end_first v w) pass
+      | inr r ↦ tally_at test v g.ends g.painted e.0 (w, v) c r had (is_end_second v w) pass
+    ]
 
 abbrev pub tally_of : Colouring → CopyId → ℕ → ℕ
-tally_of g v k = tally v k g.ends g.painted
+tally_of g v k = tally (has_hue k) v g.ends g.painted
 
 pub present_tally : (g : Colouring) (v : CopyId) (k : Colour) → IsPresent g v k → 1 ≤ tally_of g v k.0
-present_tally g v k h =
-    elim h.2.joins [
-      | inl j ↦ tally_at v k.0 g.ends g.painted h.0.0 (v, h.1) (Some k) j h.2.colour (is_end_first v h.1) (eq-eqb k.0 k.0 refl)
-      | inr j ↦ tally_at v k.0 g.ends g.painted h.0.0 (h.1, v) (Some k) j h.2.colour (is_end_second v h.1) (eq-eqb k.0 k.0 refl)
-    ]
+present_tally g v k h = tally_joined g (has_hue k.0) v h.1 h.0 (Some k) h.2.joins h.2.colour (eq-eqb k.0 k.0 refl)
 
-pub plain_present : (g : Colouring) (v w : CopyId) (e : EdgeId) → Joins g e v w → slice_get g.painted e.0 ≡ Some None → 1 ≤ plain_tally v g.ends g.painted
-plain_present g v w e j h =
-    elim j [
-      | inl r ↦ plain_at v g.ends g.painted e.0 (v, w) r h (is_end_first v w)
-      | inr r ↦ plain_at v g.ends g.painted e.0 (w, v) r h (is_end_second v w)
-    ]
+pub plain_present : (g : Colouring) (v w : CopyId) (e : EdgeId) → Joins g e v w → slice_get g.painted e.0 ≡ Some None
+    → 1 ≤ tally is_plain v g.ends g.painted
+plain_present g v w e j h = tally_joined g is_plain v w e None j h refl
 
-sum_to-ge_one : (f : ℕ → ℕ) (n : ℕ) → ((k : ℕ) → k < n → 1 ≤ f k) → n ≤ sum_to f n
-sum_to-ge_one f zero h = omega arith
-sum_to-ge_one f (suc n) h = omega (arith, h n (omega arith), sum_to-ge_one f n (λ k m. h k (omega arith)))
-
-sum_to-ge_two : (f : ℕ → ℕ) (n : ℕ) → ((k : ℕ) → k < n → 2 ≤ f k) → 2 * n ≤ sum_to f n
-sum_to-ge_two f zero h = omega arith
-sum_to-ge_two f (suc n) h = omega (arith, h n (omega arith), sum_to-ge_two f n (λ k m. h k (omega arith)))
+sum_to-ge : (f : ℕ → ℕ) (c n : ℕ) → ((k : ℕ) → k < n → c ≤ f k) → c * n ≤ sum_to f n
+sum_to-ge f c zero h = omega arith
+sum_to-ge f c (suc n) h = omega (arith, h n (omega arith), sum_to-ge f c n (λ k m. h k (omega arith)))
 
 -- where every colour is present and an edge has none, there are more edges than colours
 pub degree_of_full : (g : Colouring) (v w : CopyId) (e : EdgeId) → Joins g e v w → slice_get g.painted e.0 ≡ Some None → IsFull g v → g.colours < degree_of g v
@@ -123,13 +109,14 @@ degree_of_full g v w e j plain full =
       arith,
       tally_total v g.ends g.painted g.colours,
       plain_present g v w e j plain,
-      sum_to-ge_one (tally_of g v) g.colours (λ k h. present_tally g v (record { 0 = k }) (full (record { 0 = k }) h)),
+      sum_to-ge (tally_of g v) 1 g.colours (λ k h. present_tally g v (record { 0 = k }) (full (record { 0 = k }) h)),
     )
 
 -- where each colour is present at two of three nodes, and an edge at the first two has none, the degrees exceed twice the colours
 pub degrees_of_three : (g : Colouring) (u v w : CopyId) (e : EdgeId) → Joins g e u v → slice_get g.painted e.0 ≡ Some None → HasNoCommon g u v → HasNoCommon g u w → HasNoCommon g v w → 2 * g.colours + 2 ≤ degree_of g u + degree_of g v + degree_of g w
 degrees_of_three g u v w e j plain uv uw vw =
-    let total = sum_to-ge_two (λ k. tally_of g u k + (tally_of g v k + tally_of g w k)) g.colours (λ k h. two (record { 0 = k }) (uv (record { 0 = k }) h) (uw (record { 0 = k }) h) (vw (record { 0 = k }) h)) in
+    let each = λ (k : ℕ) (h : k < g.colours). two (record { 0 = k }) (uv (record { 0 = k }) h) (uw (record { 0 = k }) h) (vw (record { 0 = k }) h) in
+    let total = sum_to-ge (λ k. tally_of g u k + (tally_of g v k + tally_of g w k)) 2 g.colours each in
     omega (
       arith,
       total,
@@ -139,18 +126,13 @@ degrees_of_three g u v w e j plain uv uw vw =
       tally_total v g.ends g.painted g.colours,
       tally_total w g.ends g.painted g.colours,
       plain_present g u v e j plain,
-      plain_present g v u e (elim j [ inl r ↦ inr r | inr r ↦ inl r ]) plain,
+      plain_present g v u e (⊎_swap j) plain,
     )
   where
     two : (k : Colour) → IsPresent g u k ⊎ IsPresent g v k → IsPresent g u k ⊎ IsPresent g w k → IsPresent g v k ⊎ IsPresent g w k → 2 ≤ tally_of g u k.0 + (tally_of g v k.0 + tally_of g w k.0)
     two k uv uw vw =
+        let at = λ (v : CopyId) (h : IsPresent g v k). present_tally g v k h in
         elim uv [
-          | inl a ↦ elim vw [
-            | inl b ↦ omega (arith, present_tally g u k a, present_tally g v k b)
-            | inr b ↦ omega (arith, present_tally g u k a, present_tally g w k b)
-          ]
-          | inr a ↦ elim uw [
-            | inl b ↦ omega (arith, present_tally g v k a, present_tally g u k b)
-            | inr b ↦ omega (arith, present_tally g v k a, present_tally g w k b)
-          ]
+          | inl a ↦ elim vw [ inl b ↦ omega (arith, at u a, at v b) | inr b ↦ omega (arith, at u a, at w b) ]
+          | inr a ↦ elim uw [ inl b ↦ omega (arith, at v a, at u b) | inr b ↦ omega (arith, at v a, at w b) ]
         ]

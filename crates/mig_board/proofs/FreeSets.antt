@@ -1,9 +1,9 @@
 -- The sets of what is free in a table, beside its entries.
-use Rattle.mig_board.proofs.Common.{AreFreeSets, AreFullSets, Colour, CopyId, EdgeId, Entries, HasBit, IsFreeEntry, IsFreeSet, List, None, Option, Some, TurnsBit, ap, arith, bit_at, bit_at-zero}
-use Rattle.mig_board.proofs.Common.{cases_eq, cases_lt, div_ceil_times, drop, get_or, get_or-drop, get_or-take, get_or_past, inl, inr, length, length-drop, length-replicate, length-set}
-use Rattle.mig_board.proofs.Common.{length-take-le, mul-add-lt, mul-le, mul_comm, refl, replicate, same_Some, same_from_place, slice_get, slice_get-set_other, slice_get-set_same, subst, sym}
-use Rattle.mig_board.proofs.Common.{take, with_entry, words_for, ℕ, ◌%◌, ◌*◌, ◌+◌, ◌/◌, ◌<◌, ◌↔◌, ◌∙◌, ◌≡◌, ◌≢◌, ◌≤◌, ◌⊎◌}
-use Rattle.mig_board.proofs.Elements.{slice_get-replicate}
+use Rattle.mig_board.proofs.Common.{AreFreeSets, Colour, CopyId, EdgeId, Entries, HasBit, IsFreeEntry, IsFreeSet, List, None, Option, Some, TurnsBit}
+use Rattle.mig_board.proofs.Common.{ap, arith, bit_at, bit_at-zero, cases_eq, cases_lt, div_ceil_times, drop, get_or, get_or-drop, get_or-take}
+use Rattle.mig_board.proofs.Common.{get_or_past, inl, inr, length, length-drop, length-set, length-take-le, mul-add-lt, mul-le, mul_comm, refl}
+use Rattle.mig_board.proofs.Common.{same_Some, same_from_place, slice_get, slice_get-set_other, slice_get-set_same, subst, sym, take, with_entry}
+use Rattle.mig_board.proofs.Common.{words_for, ℕ, ◌%◌, ◌*◌, ◌+◌, ◌/◌, ◌<◌, ◌↔◌, ◌∙◌, ◌≡◌, ◌≢◌, ◌≤◌, ◌⊎◌}
 
 -- ---- places of bits
 
@@ -13,38 +13,11 @@ words_cover n = (div_ceil_times n 64 (omega arith)).0
 
 -- the word of a node's bit
 pub bit_word : (v each k : ℕ) → ((v * each * 64 + k) / 64 ≡ v * each + k / 64) × ((v * each * 64 + k) % 64 ≡ k % 64)
-bit_word v each k = at (v * each)
-  where
-    at : (m : ℕ) → ((m * 64 + k) / 64 ≡ m + k / 64) × ((m * 64 + k) % 64 ≡ k % 64)
-    at m = (omega arith, omega arith)
-
-pub word_within : (v each k nodes : ℕ) → v < nodes → k < each * 64 → (v * each * 64 + k) / 64 < nodes * each
-word_within v each k nodes hv hk =
-    let low : k / 64 < each = omega (arith, hk) in
-    let fits = mul-add-lt v each (k / 64) nodes hv low in
-    omega (arith, (bit_word v each k).0, fits, mul_comm nodes each)
+bit_word v each k = grind arith
 
 -- two bits at one place are one
 pub same_bit : (v w k l each : ℕ) → k < each * 64 → l < each * 64 → v * each * 64 + k ≡ w * each * 64 + l → (v ≡ w) × (k ≡ l)
-same_bit v w k l each hk hl e = same_from_place v k w l (each * 64) hk hl (regrouped v k ∙ e ∙ sym (regrouped w l))
-  where
-    regrouped : (v k : ℕ) → v * (each * 64) + k ≡ v * each * 64 + k
-    regrouped v k = omega arith
-
--- ---- a table without edges
-
-pub AreFreeSets-blank : (nodes colours : ℕ) (words : List ℕ) → AreFullSets nodes colours words → AreFreeSets (record { nodes = nodes; colours = colours; entries = replicate (nodes * colours) None }) words
-AreFreeSets-blank nodes colours words full =
-    record {
-      len = length-replicate (nodes * colours) None;
-      words_len = full.len;
-      bit = λ v k hv hk.
-          (let r = full.bit v k hv hk in
-          (λ (h : HasBit words (v * words_for colours * 64 + k)). record { in_range = r.0 h; none = slice_get-replicate (nodes * colours) (v * colours + k) None (place v k hv (r.0 h)) }, λ h. r.1 h.in_range));
-    }
-  where
-    place : (v k : ℕ) → v < nodes → k < colours → v * colours + k < nodes * colours
-    place v k hv hk = omega (arith, mul-add-lt v colours k nodes hv hk, mul_comm nodes colours)
+same_bit v w k l each hk hl e = let r : v * (each * 64) + k ≡ w * (each * 64) + l = omega arith in same_from_place v k w l (each * 64) hk hl r
 
 -- ---- one entry is written
 
@@ -53,11 +26,7 @@ place_in_entries t words a v k hv hk = omega (arith, mul-add-lt v t.colours k t.
 
 -- the entry that was written, and another one
 free_here : (t : Entries) (words : List ℕ) → AreFreeSets t words → (v : CopyId) (k : Colour) → v.0 < t.nodes → k.0 < t.colours → (o : Option EdgeId) → IsFreeEntry (with_entry t v k o) v.0 k.0 ↔ (o ≡ None)
-free_here t words a v k hv hk o =
-    let read : slice_get (with_entry t v k o).entries (v.0 * t.colours + k.0) ≡ Some o = slice_get-set_same t.entries (v.0 * t.colours + k.0) o (place_in_entries t words a v.0 k.0 hv hk) in (
-      (λ (h : IsFreeEntry (with_entry t v k o) v.0 k.0). same_Some o None (sym read ∙ h.none)),
-      (λ (h : o ≡ None). record { in_range = hk; none = read ∙ ap (λ (q : Option EdgeId). Some q) h }),
-    )
+free_here t words a v k hv hk o = grind (arith, slice_get-set_same, place_in_entries, same_Some)
 
 free_there : (t : Entries) (v : CopyId) (k : Colour) → k.0 < t.colours → (o : Option EdgeId) (w l : ℕ) → ((w ≡ v.0) × (l ≡ k.0) → ⊥) → IsFreeEntry (with_entry t v k o) w l ↔ IsFreeEntry t w l
 free_there t v k hk o w l ne = (
@@ -70,11 +39,7 @@ free_there t v k hk o w l ne = (
 
 -- at one node and colour, or not
 one_or_other : (v k w l : ℕ) → ((w ≡ v) × (l ≡ k)) ⊎ ((w ≡ v) × (l ≡ k) → ⊥)
-one_or_other v k w l =
-    elim (cases_eq w v) [
-      | inl e ↦ elim (cases_eq l k) [ inl f ↦ inl (e, f) | inr n ↦ inr (λ (h : (w ≡ v) × (l ≡ k)). n h.1) ]
-      | inr n ↦ inr (λ (h : (w ≡ v) × (l ≡ k)). n h.0)
-    ]
+one_or_other v k w l = grind (arith, cases_eq)
 
 -- the bits after a write, where that of the entry is right and the others have not changed
 written : (t : Entries) (words new : List ℕ) → AreFreeSets t words → (v : CopyId) (k : Colour) → v.0 < t.nodes → k.0 < t.colours → (o : Option EdgeId) → length new ≡ length words →
@@ -85,9 +50,8 @@ written t words new a v k hv hk o len here others =
       words_len = len ∙ a.words_len;
       bit = λ w l hw hl. elim (one_or_other v.0 k.0 w l) [
         | inl e ↦
-            subst (λ q. HasBit new (q * words_for t.colours * 64 + l) ↔ IsFreeEntry (with_entry t v k o) q l) (sym e.0)
-            (subst (λ q. HasBit new (v.0 * words_for t.colours * 64 + q) ↔ IsFreeEntry (with_entry t v k o) v.0 q) (sym e.1)
-            (let r = free_here t words a v k hv hk o in (λ h. r.1 (here.0 h), λ h. here.1 (r.0 h))))
+            let r = free_here t words a v k hv hk o in
+            rw (e.0, e.1) (λ h. r.1 (here.0 h), λ h. here.1 (r.0 h))
         | inr ne ↦
             (let old = a.bit w l hw hl in
             let kept = others (w * words_for t.colours * 64 + l) (λ e. ne (same_bit w v.0 l k.0 (words_for t.colours) hl (k_within) e)) in
@@ -101,11 +65,7 @@ written t words new a v k hv hk o len here others =
 
 -- whether there was none before
 pub was_free : (t : Entries) (words : List ℕ) → AreFreeSets t words → (v : CopyId) (k : Colour) → v.0 < t.nodes → k.0 < t.colours → (x : Option EdgeId) → slice_get t.entries (v.0 * t.colours + k.0) ≡ Some x → HasBit words (v.0 * words_for t.colours * 64 + k.0) ↔ (x ≡ None)
-was_free t words a v k hv hk x read =
-    let r = a.bit v.0 k.0 hv (omega (arith, hk, words_cover t.colours)) in (
-      (λ (h : HasBit words (v.0 * words_for t.colours * 64 + k.0)). same_Some x None (sym read ∙ (r.0 h).none)),
-      (λ (h : x ≡ None). r.1 (record { in_range = hk; none = read ∙ ap (λ (q : Option EdgeId). Some q) h })),
-    )
+was_free t words a v k hv hk x read = grind (arith, words_cover, same_Some)
 
 -- an entry of the same kind is written: no bit changes
 pub AreFreeSets-same : (t : Entries) (words : List ℕ) → AreFreeSets t words → (v : CopyId) (k : Colour) → v.0 < t.nodes → k.0 < t.colours → (x o : Option EdgeId) → slice_get t.entries (v.0 * t.colours + k.0) ≡ Some x → (x ≡ None) ↔ (o ≡ None) → AreFreeSets (with_entry t v k o) words

@@ -21,12 +21,7 @@ pub record AreCut (sets n done : ℕ) (words : List ℕ) : Type 0 where
   pub whole : (v w : ℕ) → v < sets → w < words_for n → (done ≤ v) ⊎ (w ≢ n / 64) → get_or words (v * words_for n + w) 0 ≡ ones
 
 pub cut_start : (sets n : ℕ) (words : List ℕ) → words ≡ replicate (sets * words_for n) ones → AreCut sets n 0 words
-cut_start sets n words is =
-    record {
-      len = ap length is ∙ length-replicate (sets * words_for n) ones;
-      cut = λ v h. absurd (omega (arith, h));
-      whole = λ v w hv hw c. ap (λ (q : List ℕ). get_or q (v * words_for n + w) 0) is ∙ get_or-replicate (sets * words_for n) (v * words_for n + w) ones 0 (place_within v w sets (words_for n) hv hw);
-    }
+cut_start sets n words is = grind (arith, length-replicate, get_or-replicate, place_within)
 
 pub cut_more : (sets n done : ℕ) (words : List ℕ) → n % 64 ≢ 0 → done < sets → AreCut sets n done words → (i x : ℕ) → i ≡ done * words_for n + n / 64 → x ≡ 2 ^ (n % 64) - 1 → AreCut sets n (done + 1) (set words i x)
 cut_more sets n done words some less a i x place value =
@@ -49,9 +44,7 @@ cut_more sets n done words some less a i x place value =
 
 -- a number of a set, by its word
 bit_of : (n : ℕ) (words : List ℕ) (v k x : ℕ) → get_or words (v * words_for n + k / 64) 0 ≡ x → bit_at (get_or words ((v * words_for n * 64 + k) / 64) 0) ((v * words_for n * 64 + k) % 64) ≡ bit_at x (k % 64)
-bit_of n words v k x read =
-    let at = bit_word v (words_for n) k in
-    ap (λ q. bit_at (get_or words q 0) ((v * words_for n * 64 + k) % 64)) at.0 ∙ ap (λ q. bit_at q ((v * words_for n * 64 + k) % 64)) read ∙ ap (λ q. bit_at x q) at.1
+bit_of n words v k x read = grind (arith, bit_word)
 
 pub AreFullSets-cut : (sets n : ℕ) (words : List ℕ) → n % 64 ≢ 0 → AreCut sets n sets words → AreFullSets sets n words
 AreFullSets-cut sets n words some a =

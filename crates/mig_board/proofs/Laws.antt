@@ -1,11 +1,13 @@
 -- Laws of walks and exchanges for callers.
-use Rattle.mig_board.proofs.Common.{Colour, Colouring, CopyId, EdgeId, Exchanges, HasColour, HasNoCommon, IsBlank, IsFreeAt, IsFull, IsMissing, IsPainted, IsPlain, IsPresent, IsProper}
-use Rattle.mig_board.proofs.Common.{IsSplitAt, IsWalk, Joins, Leads, List, None, Option, PaintsOne, Recolours, SameGraph, Some, WalkStep, WalksTo, [], ap, arith, backwards, blank, cases_eq}
-use Rattle.mig_board.proofs.Common.{cases_lt, degree_of, end_of, get_or-replicate, inl, inr, length, length-replicate, next_colour, none-some, painted_with, refl, replicate, same_Some, same_edge}
-use Rattle.mig_board.proofs.Common.{slice_get, slice_get-get_or, slice_get-set_other, slice_get-set_same, slice_get_within, subst, swapped, sym, ℕ, ◌+◌, ◌<◌, ◌∙◌, ◌∷◌, ◌≡◌, ◌≢◌, ◌≤◌, ◌⊎◌}
+use Rattle.mig_board.proofs.Common.{Colour, Colouring, CopyId, EdgeId, Exchanges, HasColour, HasNoCommon, IsFreeAt, IsFull, IsMissing, IsPainted}
+use Rattle.mig_board.proofs.Common.{IsPlain, IsPresent, IsProper, IsSplitAt, IsWalk, Joins, Leads, List, None, PaintsOne, Recolours, SameGraph, Some}
+use Rattle.mig_board.proofs.Common.{WalkStep, WalksTo, [], ap, arith, backwards, cases_lt, degree_of, end_of, inl, inr, length, next_colour}
+use Rattle.mig_board.proofs.Common.{none-some, painted_with, refl, same_Some, slice_get-set_other, slice_get-set_same, slice_get_within, subst}
+use Rattle.mig_board.proofs.Common.{swapped, sym, ℕ, ◌<◌, ◌∙◌, ◌∷◌, ◌≡◌, ◌≢◌, ◌≤◌, ◌⊎◌}
 use Rattle.mig_board.proofs.Walks.{IsPath, path_of_walk, path_back, next_pair, missing_differs, end_cases}
+use Rattle.std.proofs.Math.Path.{subst₂}
 use Rattle.mig_board.proofs.Counting.{degree_of_full}
-use Rattle.mig_board.proofs.Tables.{edge_cases, painted_cases}
+use Rattle.mig_board.proofs.Tables.{edge_cases, hue_cases}
 use Rattle.mig_board.proofs.Exchange.{path_edge_cases, path_edge, swapped_second, swapped_third}
 
 -- ---- what is missing and what is there
@@ -32,11 +34,7 @@ not_full g v w e j plain few full = absurd (omega (arith, degree_of_full g v w e
 
 -- a colour that is missing at both ends is free
 pub both_free : (g : Colouring) (e : EdgeId) (u v : CopyId) (k : Colour) → Joins g e u v → IsMissing g u k → IsMissing g v k → IsFreeAt g e k
-both_free g e u v k j first second = λ q r jq.
-    elim (end_cases g e u v q r j jq) [
-      | inl h ↦ subst (λ (x : CopyId). IsMissing g x k) (sym h) first
-      | inr h ↦ subst (λ (x : CopyId). IsMissing g x k) (sym h) second
-    ]
+both_free g e u v k j first second = grind (arith, end_cases)
 
 -- an exchange colours no edge and uncolours none
 pub exchanges_painted : (old new : Colouring) (v : CopyId) (a b : Colour) (w : CopyId) → Exchanges old new v a b w → (f : EdgeId) → IsPainted old f → IsPainted new f
@@ -47,13 +45,7 @@ exchanges_painted old new v a b w x f h =
     ]
 
 pub exchanges_plain : (old new : Colouring) (v : CopyId) (a b : Colour) (w : CopyId) → Exchanges old new v a b w → (f : EdgeId) → IsPlain old f → IsPlain new f
-exchanges_plain old new v a b w x f h =
-    elim (path_edge_cases f x.walk.steps) [
-      | inl on ↦
-          (let r = path_edge old v a b x.walk.steps (path_of_walk old v a b x.walk.steps x.walk.law.walk).0 f on in
-          absurd (none-some r.colour (same_Some None (Some r.colour) (sym h ∙ r.leads.colour))))
-      | inr off ↦ x.off f off ∙ h
-    ]
+exchanges_plain old new v a b w x f h = grind (arith, path_edge_cases, path_edge, path_of_walk)
 
 -- painting a plain edge
 pub PaintsOne-painted : (old : Colouring) (e : EdgeId) (k : Colour) → e.0 < length old.painted → PaintsOne old (painted_with old e k) e
@@ -62,50 +54,45 @@ PaintsOne-painted old e k h =
       graph = refl;
       here = (k, slice_get-set_same old.painted e.0 (Some k) h);
       kept = λ f p. elim (edge_cases f e) [
-        | inl same ↦ (k, subst (λ (q : EdgeId). slice_get (painted_with old e k).painted q.0 ≡ Some (Some k)) (sym same) (slice_get-set_same old.painted e.0 (Some k) h))
+        | inl same ↦ (k, rw same (slice_get-set_same old.painted e.0 (Some k) h))
         | inr other ↦ (p.0, slice_get-set_other old.painted e.0 f.0 (Some k) other ∙ p.1)
       ];
       plain = λ f other p. slice_get-set_other old.painted e.0 f.0 (Some k) other ∙ p;
     }
 
+-- both on one side, and on different sides
+abbrev AreBeside : ℕ → CopyId → CopyId → Type 0
+AreBeside left v w = ((v.0 < left) × (w.0 < left)) ⊎ ((left ≤ v.0) × (left ≤ w.0))
+
+abbrev AreAcross : ℕ → CopyId → CopyId → Type 0
+AreAcross left v w = ((v.0 < left) × (left ≤ w.0)) ⊎ ((left ≤ v.0) × (w.0 < left))
+
+across_first : (left : ℕ) (v w u : CopyId) → AreAcross left v w → AreBeside left w u → AreAcross left v u
+across_first left v w u h m = grind arith
+
+across_twice : (left : ℕ) (v w u : CopyId) → AreAcross left v w → AreAcross left w u → AreBeside left v u
+across_twice left v w u h m = grind arith
+
 -- in a two-sided graph a walk that would go on by its first colour has come back to its side
-pub path_sides : (g : Colouring) (left : ℕ) → IsSplitAt g left → (v : CopyId) (a b : Colour) (steps : List WalkStep) → IsPath g v a b steps →
-    ((next_colour a b steps ≡ b) × (((v.0 < left) × ((end_of v steps).0 < left)) ⊎ ((left ≤ v.0) × (left ≤ (end_of v steps).0)))) ⊎
-    ((next_colour a b steps ≡ a) × (((v.0 < left) × (left ≤ (end_of v steps).0)) ⊎ ((left ≤ v.0) × ((end_of v steps).0 < left))))
+pub path_sides : (g : Colouring) (left : ℕ) → IsSplitAt g left → (v : CopyId) (a b : Colour) (steps : List WalkStep) → IsPath g v a b steps
+    → ((next_colour a b steps ≡ b) × AreBeside left v (end_of v steps)) ⊎ ((next_colour a b steps ≡ a) × AreAcross left v (end_of v steps))
 path_sides g left two v a b [] path = inl (refl, elim (cases_lt v.0 left) [ inl h ↦ inl (h, h) | inr h ↦ inr (h, h) ])
 path_sides g left two v a b (s ∷ rest) path =
     let cross = two s.edge v s.to path.0.joins in
     elim (path_sides g left two s.to b a rest path.1) [
-      | inl h ↦ inr (
-        h.0,
-        elim cross [
-          | inl x ↦ elim h.1 [ inl y ↦ absurd (omega (arith, x.1, y.0)) | inr y ↦ inl (x.0, y.1) ]
-          | inr x ↦ elim h.1 [ inl y ↦ inr (x.0, y.1) | inr y ↦ absurd (omega (arith, x.1, y.0)) ]
-        ],
-      )
-      | inr h ↦ inl (
-        h.0,
-        elim cross [
-          | inl x ↦ elim h.1 [ inl y ↦ absurd (omega (arith, x.1, y.0)) | inr y ↦ inl (x.0, y.1) ]
-          | inr x ↦ elim h.1 [ inl y ↦ inr (x.0, y.1) | inr y ↦ absurd (omega (arith, x.1, y.0)) ]
-        ],
-      )
+      | inl h ↦ inr (h.0, across_first left v s.to (end_of s.to rest) cross h.1)
+      | inr h ↦ inl (h.0, across_twice left v s.to (end_of s.to rest) cross h.1)
     ]
 
 -- So a walk from one end of an edge that lacks a does not end at the other end where b is missing.
-pub ends_elsewhere : (g : Colouring) (left : ℕ) → IsSplitAt g left → (v : CopyId) (a b : Colour) (w u : CopyId) (e : EdgeId) → IsMissing g v a → IsPresent g v b → WalksTo g v a b w → Joins g e v u → IsMissing g u b → u ≢ w
-ends_elsewhere g left two v a b w u e m h x j mu = λ same.
-    let steps : List WalkStep = x.steps in
-    let r = path_of_walk g v a b x.steps x.law.walk in
+pub ends_elsewhere : (g : Colouring) (left : ℕ) → IsSplitAt g left → (v : CopyId) (a b : Colour) (w u : CopyId) (e : EdgeId)
+    → IsMissing g v a → IsPresent g v b → WalksTo g v a b w → Joins g e v u → IsMissing g u b → u ≢ w
+ends_elsewhere g left two v a b w u e m h x j mu same =
     let here : end_of v x.steps ≡ u = x.end ∙ sym same in
-    let cross = two e v u j in
-    elim (path_sides g left two v a b x.steps r.0) [
-      | inl s ↦ elim s.1 [
-        | inl y ↦ elim cross [ inl c ↦ absurd (omega (arith, y.1, c.1, ap (λ (q : CopyId). q.0) here)) | inr c ↦ absurd (omega (arith, y.0, c.0)) ]
-        | inr y ↦ elim cross [ inl c ↦ absurd (omega (arith, y.0, c.0)) | inr c ↦ absurd (omega (arith, y.1, c.1, ap (λ (q : CopyId). q.0) here)) ]
-      ]
+    elim (path_sides g left two v a b x.steps (path_of_walk g v a b x.steps x.law.walk).0) [
+      | inl s ↦ absurd (omega (arith, s.1, two e v u j, ap (λ (q : CopyId). q.0) here))
       | inr s ↦ elim (next_pair a b x.steps) [
-        | inl p ↦ mu.absent x.law.has.0 x.law.has.1 (subst (λ (q : CopyId). Leads g q b x.law.has.0 x.law.has.1) here (subst (λ (q : Colour). Leads g (end_of v x.steps) q x.law.has.0 x.law.has.1) p.1 x.law.has.2))
+        | inl p ↦ not_both g u b mu (rw (here, p.1) at x.law.has)
         | inr p ↦ missing_differs g v a b m h (sym s.0 ∙ p.0)
       ]
     ]
@@ -136,20 +123,6 @@ pub record IsPart (first now : Colouring) (n : ℕ) : Type 0 where
   pub done : (e : EdgeId) → e.0 < n → IsPainted now e
   pub rest : (e : EdgeId) → n ≤ e.0 → e.0 < length first.ends → IsPlain now e
 
-pub IsPart-start : (g : Colouring) → IsBlank g → IsPart g g 0
-IsPart-start g h = record { graph = refl; done = λ e m. absurd (omega arith); rest = λ e m lt. h e lt }
-
-pub IsPart-more : (first now next : Colouring) (n : ℕ) (e : EdgeId) → e.0 ≡ n → IsPart first now n → PaintsOne now next e → IsPart first next (n + 1)
-IsPart-more first now next n e is p x =
-    record {
-      graph = x.graph ∙ ap (λ (g : Colouring). record g { painted = next.painted }) p.graph;
-      done = λ f m. elim (cases_eq f.0 n) [
-        | inl h ↦ subst (λ (q : EdgeId). IsPainted next q) (sym (same_edge f e (h ∙ sym is))) x.here
-        | inr h ↦ x.kept f (p.done f (omega arith))
-      ];
-      rest = λ f m lt. x.plain f (λ h. absurd (omega (arith, h, is))) (p.rest f (omega arith) lt);
-    }
-
 -- ---- changes after which the same edges have a colour
 
 pub Recolours-exchanged : (old new : Colouring) (v : CopyId) (a b : Colour) (w : CopyId) → Exchanges old new v a b w → Recolours old new
@@ -168,25 +141,11 @@ Recolours-repainted g e k h =
       ];
     }
 
-pub Recolours-same : (g h : Colouring) → h ≡ g → Recolours g h
-Recolours-same g h same = subst (λ (q : Colouring). Recolours g q) (sym same) (record { graph = refl; kept = λ f p. p; plain = λ f p. p })
-
 pub Recolours-trans : (a b c : Colouring) → Recolours a b → Recolours b c → Recolours a c
-Recolours-trans a b c x y =
-    record {
-      graph = y.graph ∙ ap (λ (g : Colouring). record g { painted = c.painted }) x.graph;
-      kept = λ f h. y.kept f (x.kept f h);
-      plain = λ f h. y.plain f (x.plain f h);
-    }
+Recolours-trans a b c x y = grind arith
 
 pub PaintsOne-after : (a b c : Colouring) (e : EdgeId) → Recolours a b → PaintsOne b c e → PaintsOne a c e
-PaintsOne-after a b c e x y =
-    record {
-      graph = y.graph ∙ ap (λ (g : Colouring). record g { painted = c.painted }) x.graph;
-      here = y.here;
-      kept = λ f h. y.kept f (x.kept f h);
-      plain = λ f other h. y.plain f other (x.plain f h);
-    }
+PaintsOne-after a b c e x y = grind arith
 
 -- ---- after a repaint
 
@@ -195,8 +154,8 @@ pub repainted_old : (g : Colouring) (p : IsProper g) (v : CopyId) (a c : Colour)
 repainted_old g p v a c e w l d =
     record {
       in_range = p.colours_in_range e a l.colour;
-      absent = λ f x m. elim (painted_cases g e c f a (slice_get_within g.painted e.0 (Some a) l.colour) m.colour) [
-        | inl h ↦ d h.1
+      absent = λ f x m. elim (hue_cases g e (Some c) f a (slice_get_within g.painted e.0 (Some a) l.colour) m.colour) [
+        | inl h ↦ d (cc h.1)
         | inr h ↦ h.0 (ap (λ (q : EdgeId). q.0) (p.apart v a f e x w (record { joins = m.joins; colour = h.1 }) l))
       ];
     }
@@ -206,8 +165,8 @@ pub repainted_other : (g : Colouring) (v : CopyId) (a c : Colour) (e : EdgeId) �
 repainted_other g v a c e within m d =
     record {
       in_range = m.in_range;
-      absent = λ f x l. elim (painted_cases g e c f a within l.colour) [
-        | inl h ↦ d h.1
+      absent = λ f x l. elim (hue_cases g e (Some c) f a within l.colour) [
+        | inl h ↦ d (cc h.1)
         | inr h ↦ m.absent f x (record { joins = l.joins; colour = h.1 })
       ];
     }
@@ -228,36 +187,19 @@ exchanges_third old new v a b w h u k e x na nb l =
 pub same_far : (g : Colouring) (v : CopyId) (a b : Colour) (w : CopyId) → WalksTo g v a b w → (steps : List WalkStep) → IsWalk g v a b steps → end_of v steps ≡ w
 same_far g v a b w x steps h = ap (end_of v) (x.law.only steps h) ∙ x.end
 
+-- the end's own colours, one of which is missing there, are those that the walk would have next
+ends_own : (a b l h next other : Colour) → ((l ≡ a) × (h ≡ b)) ⊎ ((l ≡ b) × (h ≡ a)) → ((next ≡ a) × (other ≡ b)) ⊎ ((next ≡ b) × (other ≡ a))
+    → l ≢ other → (next ≡ l) × (other ≡ h)
+ends_own a b l h next other own two ne = grind arith
+
 -- the walk back from the end of a walk, by the end's own colours
-pub walk_from_end : (g : Colouring) (v : CopyId) (a b : Colour) (w : CopyId) → WalksTo g v a b w → (l h : Colour) → ((l ≡ a) × (h ≡ b)) ⊎ ((l ≡ b) × (h ≡ a)) → IsMissing g w l → IsPresent g w h → (steps : List WalkStep) × IsWalk g w l h steps × (end_of w steps ≡ v)
+pub walk_from_end : (g : Colouring) (v : CopyId) (a b : Colour) (w : CopyId) → WalksTo g v a b w → (l h : Colour)
+    → ((l ≡ a) × (h ≡ b)) ⊎ ((l ≡ b) × (h ≡ a)) → IsMissing g w l → IsPresent g w h
+    → (steps : List WalkStep) × IsWalk g w l h steps × (end_of w steps ≡ v)
 walk_from_end g v a b w x l h which m p =
-    let s : List WalkStep = x.steps in
-    let path = (path_of_walk g v a b x.steps x.law.walk).0 in
-    (backwards v x.steps, back (next_pair a b x.steps), subst (λ (q : CopyId). end_of q (backwards v x.steps) ≡ v) x.end (path_back g v a b x.steps path).end)
-  where
-    present : (k : Colour) → next_colour b a x.steps ≡ k → IsPresent g w k
-    present k e = (x.law.has.0, x.law.has.1, subst (λ (q : CopyId). Leads g q k x.law.has.0 x.law.has.1) x.end (subst (λ (q : Colour). Leads g (end_of v x.steps) q x.law.has.0 x.law.has.1) e x.law.has.2))
-
-    wrong : next_colour b a x.steps ≡ l → ⊥
-    wrong e = (let q = present l e in m.absent q.0 q.1 q.2)
-
-    right : next_colour a b x.steps ≡ l → next_colour b a x.steps ≡ h → IsWalk g w l h (backwards v x.steps)
-    right e f = subst (λ (q : CopyId). IsWalk g q l h (backwards v x.steps)) x.end
-        (subst (λ (q : Colour). IsWalk g (end_of v x.steps) q h (backwards v x.steps)) e
-        (subst (λ (q : Colour). IsWalk g (end_of v x.steps) (next_colour a b x.steps) q (backwards v x.steps)) f x.law.back))
-
-    back : ((next_colour a b x.steps ≡ a) × (next_colour b a x.steps ≡ b)) ⊎ ((next_colour a b x.steps ≡ b) × (next_colour b a x.steps ≡ a)) → IsWalk g w l h (backwards v x.steps)
-    back c =
-        elim c [
-          | inl y ↦ elim which [ inl z ↦ right (y.0 ∙ sym z.0) (y.1 ∙ sym z.1) | inr z ↦ absurd (wrong (y.1 ∙ sym z.0)) ]
-          | inr y ↦ elim which [ inl z ↦ absurd (wrong (y.1 ∙ sym z.0)) | inr z ↦ right (y.0 ∙ sym z.0) (y.1 ∙ sym z.1) ]
-        ]
-
--- ---- at the beginning
-
--- on a new board nothing is coloured
-pub IsBlank-blank : (nodes colours : ℕ) (ends : List (CopyId × CopyId)) → IsBlank (blank nodes colours ends)
-IsBlank-blank nodes colours ends e h =
-    let n : Option Colour = None in
-    let plain : List (Option Colour) = replicate (length ends) n in
-    slice_get-get_or plain e.0 n (omega (arith, h, length-replicate (length ends) n)) ∙ ap (λ (x : Option Colour). Some x) (get_or-replicate (length ends) e.0 n n h)
+    let has : IsPresent g w (next_colour b a x.steps) = rw x.end at x.law.has in
+    let back : IsWalk g w (next_colour a b x.steps) (next_colour b a x.steps) (backwards v x.steps) = rw x.end at x.law.back in
+    let goes = (path_back g v a b x.steps (path_of_walk g v a b x.steps x.law.walk).0).end in
+    let other = missing_differs g w l (next_colour b a x.steps) m has in
+    let own = ends_own a b l h (next_colour a b x.steps) (next_colour b a x.steps) which (next_pair a b x.steps) other in
+    (backwards v x.steps, subst₂ (λ (c d : Colour). IsWalk g w c d (backwards v x.steps)) own.0 own.1 back, rw x.end at goes)

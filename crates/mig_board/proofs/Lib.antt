@@ -6,7 +6,6 @@ pub mod ExchangeFacts
 pub mod Counting
 pub mod Laws
 pub mod Bits
-pub mod Elements
 pub mod FreeSets
 pub mod TableFacts
 pub mod FullSets

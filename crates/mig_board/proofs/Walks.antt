@@ -1,9 +1,10 @@
 -- Paths of two colours in a proper colouring: they repeat no node, are unique, and go back the same way.
 use Rattle.mig_board.proofs.Common.{All, All-cons, All-contains, All-nil, AllPairs, Colour, Colouring, Contains-from_any, CopyId, EdgeId, HasColour, IsDistinct-cons, IsEdgeOf}
 use Rattle.std.specs.List.{IsDistinct}
+use Rattle.std.proofs.Math.Logic.{⊎_swap}
 use Rattle.mig_board.proofs.Common.{IsMissing, IsNodeOf, IsPresent, IsProper, IsWalk, Joins, Leads, List, Option, Some, WalkLaw, WalkStep, WalksTo, [], ap, append-nil, append_assoc, arith, backwards}
 use Rattle.mig_board.proofs.Common.{end_of, eqb, eqb-true, false, get_or, inl, inr, length, length-append, length-le_from_distinct_below, ne_eqb, next_colour, nodes_of, recursion_from_All, refl}
-use Rattle.mig_board.proofs.Common.{same_copy, some_pair_parts, subst, suc, sym, zero, ℕ, ◌++◌, ◌+◌, ◌<◌, ◌∙◌, ◌∷◌, ◌≡◌, ◌≢◌, ◌⊎◌}
+use Rattle.mig_board.proofs.Common.{same_copy, some_pair_parts, subst, suc, sym, zero, ℕ, ◌++◌, ◌+◌, ◌<◌, ◌∙◌, ◌∷◌, ◌↔◌, ◌≡◌, ◌≢◌, ◌⊎◌}
 
 -- a walk that may still go on
 abbrev pub IsPath : Colouring → CopyId → Colour → Colour → List WalkStep → Type 0
@@ -26,19 +27,11 @@ same_pair o a x b y h m = some_pair_parts a x b y (sym h ∙ m)
 
 -- an edge at v has one other end
 pub same_end : (g : Colouring) (p : IsProper g) (e : EdgeId) (v w x : CopyId) → Joins g e v w → Joins g e v x → w ≡ x
-same_end g p e v w x j k =
-    elim j [
-      | inl h ↦ elim k [ inl m ↦ (same_pair _ _ _ _ _ h m).1 | inr m ↦ absurd (p.no_loop e v w (inl h) (sym (same_pair _ _ _ _ _ h m).1)) ]
-      | inr h ↦ elim k [ inl m ↦ absurd (p.no_loop e v w (inr h) (sym (same_pair _ _ _ _ _ h m).0)) | inr m ↦ (same_pair _ _ _ _ _ h m).0 ]
-    ]
+same_end g p e v w x j k = grind (arith, same_pair)
 
 -- an edge has two ends
 pub end_cases : (g : Colouring) (e : EdgeId) (v w u x : CopyId) → Joins g e v w → Joins g e u x → (u ≡ v) ⊎ (u ≡ w)
-end_cases g e v w u x j k =
-    elim j [
-      | inl h ↦ elim k [ inl m ↦ inl (sym (same_pair _ _ _ _ _ h m).0) | inr m ↦ inr (sym (same_pair _ _ _ _ _ h m).1) ]
-      | inr h ↦ elim k [ inl m ↦ inr (sym (same_pair _ _ _ _ _ h m).0) | inr m ↦ inl (sym (same_pair _ _ _ _ _ h m).1) ]
-    ]
+end_cases g e v w u x j k = grind (arith, same_pair)
 
 pub same_colour : (g : Colouring) (e : EdgeId) (k l : Colour) → HasColour g e k → HasColour g e l → k ≡ l
 same_colour g e k l h m = cc
@@ -99,22 +92,16 @@ edge_on g p v a b (s ∷ rest) path u at k e x l ab =
     elim at [
       | inl h ↦ elim ab [
         | inl m ↦ inr (inl (sym h, m))
-        | inr m ↦ inl (inl (sym (p.apart v b e s.edge x s.to (moved v b (sym h) m l) path.0)))
+        | inr m ↦ inl (inl (sym (p.apart v b e s.edge x s.to (rw (← h, m) at l) path.0)))
       ]
-      | inr h ↦ elim (edge_on g p s.to b a rest path.1 u h k e x l (swapped ab)) [
+      | inr h ↦ elim (edge_on g p s.to b a rest path.1 u h k e x l (⊎_swap ab)) [
         | inl on ↦ inl (inr on)
         | inr other ↦ elim other [
-          | inl first ↦ inl (inl (sym (p.apart s.to b e s.edge x v (moved s.to b first.0 first.1 l) (leads_back path.0))))
+          | inl first ↦ inl (inl (sym (p.apart s.to b e s.edge x v (rw (first.0, first.1) at l) (leads_back path.0))))
           | inr last ↦ inr (inr last)
         ]
       ]
     ]
-  where
-    moved : (w : CopyId) (c : Colour) → u ≡ w → k ≡ c → Leads g u k e x → Leads g w c e x
-    moved w c h m l = subst (λ (q : CopyId). Leads g q c e x) h (subst (λ (q : Colour). Leads g u q e x) m l)
-
-    swapped : (k ≡ a) ⊎ (k ≡ b) → (k ≡ b) ⊎ (k ≡ a)
-    swapped h = elim h [ inl m ↦ inr m | inr m ↦ inl m ]
 
 -- the only edge of the path at its last node is the last one
 pub last_edge : (g : Colouring) (p : IsProper g) (v : CopyId) (a b : Colour) (steps : List WalkStep) → IsPath g v a b steps → NoRepeat v steps → (k : Colour) (f : EdgeId) (x : CopyId) → IsEdgeOf f steps → Leads g (end_of v steps) k f x → k ≡ next_colour b a steps
@@ -156,42 +143,25 @@ pub next_of-push : (a b : Colour) (steps : List WalkStep) (s : WalkStep) → nex
 next_of-push a b [] s = refl
 next_of-push a b (t ∷ rest) s = next_of-push b a rest s
 
-pub IsNodeOf-push_cases : (u v : CopyId) (steps : List WalkStep) (s : WalkStep) → IsNodeOf u v (steps ++ s ∷ []) → IsNodeOf u v steps ⊎ (s.to ≡ u)
-IsNodeOf-push_cases u v [] s at = at
-IsNodeOf-push_cases u v (t ∷ rest) s at =
-    elim at [
-      | inl h ↦ inl (inl h)
-      | inr h ↦ elim (IsNodeOf-push_cases u t.to rest s h) [ inl m ↦ inl (inr m) | inr m ↦ inr m ]
-    ]
+-- what is on a path with one more step is on the path, or the step has it
+one_more : {P Q R S : Type 0} → P ↔ (Q ⊎ R) → (S ⊎ P) ↔ ((S ⊎ Q) ⊎ R)
+one_more r = (
+  λ h. elim h [ inl s ↦ inl (inl s) | inr p ↦ elim (r.0 p) [ inl q ↦ inl (inr q) | inr x ↦ inr x ] ],
+  λ h. elim h [ inl m ↦ elim m [ inl s ↦ inl s | inr q ↦ inr (r.1 (inl q)) ] | inr x ↦ inr (r.1 (inr x)) ],
+)
 
-pub IsNodeOf-push : (u v : CopyId) (steps : List WalkStep) (s : WalkStep) → IsNodeOf u v steps ⊎ (s.to ≡ u) → IsNodeOf u v (steps ++ s ∷ [])
-IsNodeOf-push u v [] s at = at
-IsNodeOf-push u v (t ∷ rest) s at =
-    elim at [
-      | inl h ↦ elim h [ inl m ↦ inl m | inr m ↦ inr (IsNodeOf-push u t.to rest s (inl m)) ]
-      | inr h ↦ inr (IsNodeOf-push u t.to rest s (inr h))
-    ]
+pub IsNodeOf-push : (u v : CopyId) (steps : List WalkStep) (s : WalkStep) → IsNodeOf u v (steps ++ s ∷ []) ↔ (IsNodeOf u v steps ⊎ (s.to ≡ u))
+IsNodeOf-push u v [] s = (λ h. h, λ h. h)
+IsNodeOf-push u v (t ∷ rest) s = one_more (IsNodeOf-push u t.to rest s)
 
-pub IsEdgeOf-push_cases : (e : EdgeId) (steps : List WalkStep) (s : WalkStep) → IsEdgeOf e (steps ++ s ∷ []) → IsEdgeOf e steps ⊎ (s.edge ≡ e)
-IsEdgeOf-push_cases e [] s on = elim on [ inl h ↦ inr h | inr h ↦ absurd h ]
-IsEdgeOf-push_cases e (t ∷ rest) s on =
-    elim on [
-      | inl h ↦ inl (inl h)
-      | inr h ↦ elim (IsEdgeOf-push_cases e rest s h) [ inl m ↦ inl (inr m) | inr m ↦ inr m ]
-    ]
-
-pub IsEdgeOf-push : (e : EdgeId) (steps : List WalkStep) (s : WalkStep) → IsEdgeOf e steps ⊎ (s.edge ≡ e) → IsEdgeOf e (steps ++ s ∷ [])
-IsEdgeOf-push e [] s on = elim on [ inl h ↦ absurd h | inr h ↦ inl h ]
-IsEdgeOf-push e (t ∷ rest) s on =
-    elim on [
-      | inl h ↦ elim h [ inl m ↦ inl m | inr m ↦ inr (IsEdgeOf-push e rest s (inl m)) ]
-      | inr h ↦ inr (IsEdgeOf-push e rest s (inr h))
-    ]
+pub IsEdgeOf-push : (e : EdgeId) (steps : List WalkStep) (s : WalkStep) → IsEdgeOf e (steps ++ s ∷ []) ↔ (IsEdgeOf e steps ⊎ (s.edge ≡ e))
+IsEdgeOf-push e [] s = (⊎_swap, ⊎_swap)
+IsEdgeOf-push e (t ∷ rest) s = one_more (IsEdgeOf-push e rest s)
 
 pub NoRepeat-push : (v : CopyId) (steps : List WalkStep) (s : WalkStep) → NoRepeat v steps → (IsNodeOf s.to v steps → ⊥) → NoRepeat v (steps ++ s ∷ [])
 NoRepeat-push v [] s n new = ((λ (h : s.to ≡ v). new (sym h)), tt)
 NoRepeat-push v (t ∷ rest) s n new = (
-  (λ (h : IsNodeOf v t.to (rest ++ s ∷ [])). elim (IsNodeOf-push_cases v t.to rest s h) [ inl m ↦ n.0 m | inr m ↦ new (inl (sym m)) ]),
+  (λ (h : IsNodeOf v t.to (rest ++ s ∷ [])). elim ((IsNodeOf-push v t.to rest s).0 h) [ inl m ↦ n.0 m | inr m ↦ new (inl (sym m)) ]),
   NoRepeat-push t.to rest s n.1 (λ (h : IsNodeOf s.to t.to rest). new (inr h)),
 )
 
@@ -208,8 +178,7 @@ path_back g v a b (s ∷ rest) path =
     let r = path_back g s.to b a rest path.1 in
     let w = end_of s.to rest in
     let l : Leads g (end_of w (backwards s.to rest)) (next_colour (next_colour b a rest) (next_colour a b rest) (backwards s.to rest)) s.edge v =
-    subst (λ (q : CopyId). Leads g q (next_colour (next_colour b a rest) (next_colour a b rest) (backwards s.to rest)) s.edge v) (sym r.end)
-    (subst (λ (q : Colour). Leads g s.to q s.edge v) (sym r.next) (leads_back path.0)) in
+    rw (r.end, r.next) (leads_back path.0) in
     record {
       path = IsPath-push g w (next_colour b a rest) (next_colour a b rest) (backwards s.to rest) s.edge v r.path l;
       end = end_of-push w (backwards s.to rest) (step_of s.edge v);
@@ -219,26 +188,18 @@ path_back g v a b (s ∷ rest) path =
 
 -- the walk from the end is the same walk backwards
 pub walk_back : (g : Colouring) (v : CopyId) (a b : Colour) (steps : List WalkStep) → IsMissing g v a → IsWalk g v a b steps → IsWalk g (end_of v steps) (next_colour a b steps) (next_colour b a steps) (backwards v steps)
-walk_back g v a b steps m w =
-    let r = path_back g v a b steps (path_of_walk g v a b steps w).0 in
-    walk_of_path g (end_of v steps) (next_colour a b steps) (next_colour b a steps) (backwards v steps) r.path
-    (subst (λ (q : CopyId). IsMissing g q (next_colour (next_colour a b steps) (next_colour b a steps) (backwards v steps))) (sym r.end) (subst (λ (q : Colour). IsMissing g v q) (sym r.next) m))
+walk_back g v a b steps m w = grind (arith, path_back, path_of_walk, walk_of_path)
 
 -- a path that goes on from a path without repeats
 pub NoRepeat-append : (g : Colouring) (p : IsProper g) (v : CopyId) (a b : Colour) → IsMissing g v a → a ≢ b → (steps more : List WalkStep) → IsPath g v a b steps → NoRepeat v steps → IsPath g (end_of v steps) (next_colour b a steps) (next_colour a b steps) more → NoRepeat v (steps ++ more)
 NoRepeat-append g p v a b m d steps [] path n on = subst (λ (q : List WalkStep). NoRepeat v q) (sym (append-nil steps)) n
 NoRepeat-append g p v a b m d steps (s ∷ more) path n on =
     let next : List WalkStep = steps ++ s ∷ [] in
-    let last : end_of v next ≡ s.to = end_of-push v steps s in
-    let here : next_colour b a next ≡ next_colour a b steps = next_of-push b a steps s in
-    let there : next_colour a b next ≡ next_colour b a steps = next_of-push a b steps s in
+    let after : IsPath g (end_of v next) (next_colour b a next) (next_colour a b next) more =
+    rw (end_of-push v steps s, next_of-push b a steps s, next_of-push a b steps s) on.1 in
+    let new = λ (h : IsNodeOf s.to v steps). fresh g p v a b steps m d path n s.edge s.to on.0 h in
     subst (λ (q : List WalkStep). NoRepeat v q) (append_assoc steps (s ∷ []) more)
-    (NoRepeat-append g p v a b m d next more
-    (IsPath-push g v a b steps s.edge s.to path on.0)
-    (NoRepeat-push v steps s n (λ (h : IsNodeOf s.to v steps). fresh g p v a b steps m d path n s.edge s.to on.0 h))
-    (subst (λ (q : CopyId). IsPath g q (next_colour b a next) (next_colour a b next) more) (sym last)
-    (subst (λ (q : Colour). IsPath g s.to q (next_colour a b next) more) (sym here)
-    (subst (λ (q : Colour). IsPath g s.to (next_colour a b steps) q more) (sym there) on.1))))
+    (NoRepeat-append g p v a b m d next more (IsPath-push g v a b steps s.edge s.to path on.0) (NoRepeat-push v steps s n new) after)
 
 -- a path from a node where its second colour is missing repeats no node
 pub path_no_repeat : (g : Colouring) (p : IsProper g) (v : CopyId) (a b : Colour) → IsMissing g v a → a ≢ b → (steps : List WalkStep) → IsPath g v a b steps → NoRepeat v steps
@@ -333,7 +294,7 @@ abbrev pub underway_more : (g : Colouring) (v : CopyId) (a b : Colour) (at : Cop
 underway_more g v a b at next other n u e w l =
     record {
       steps = u.steps ++ step_of e w ∷ [];
-      path = IsPath-push g v a b u.steps e w u.path (subst (λ (q : CopyId). Leads g q (next_colour a b u.steps) e w) (sym u.at_is) (subst (λ (q : Colour). Leads g at q e w) (sym u.next_is) l));
+      path = IsPath-push g v a b u.steps e w u.path (rw (u.at_is, u.next_is) l);
       at_is = end_of-push v u.steps (step_of e w);
       next_is = next_of-push a b u.steps (step_of e w) ∙ u.other_is;
       other_is = next_of-push b a u.steps (step_of e w) ∙ u.next_is;
@@ -344,7 +305,7 @@ pub underway_end : (g : Colouring) (p : IsProper g) (v : CopyId) (a b : Colour) 
 underway_end g p v a b m h at next other n u last =
     record {
       steps = u.steps;
-      law = walk_law g p v a b m h u.steps (walk_of_path g v a b u.steps u.path (subst (λ (q : CopyId). IsMissing g q (next_colour a b u.steps)) (sym u.at_is) (subst (λ (q : Colour). IsMissing g at q) (sym u.next_is) last)));
+      law = walk_law g p v a b m h u.steps (walk_of_path g v a b u.steps u.path (rw (u.at_is, u.next_is) last));
       end = u.at_is;
     }
 
@@ -362,24 +323,11 @@ underway_at g p v a b h at next other n u =
     subst (λ (q : CopyId). q.0 < g.nodes) u.at_is (end_in_range g p v a b u.steps (p.nodes_in_range h.0 v h.1 h.2.joins) u.path)
 
 pub underway_next : (g : Colouring) (p : IsProper g) (v : CopyId) (a b : Colour) → IsMissing g v a → IsPresent g v b → (at : CopyId) (next other : Colour) (n : ℕ) → IsUnderway g v a b at next other n → (next.0 < g.colours) × (other.0 < g.colours)
-underway_next g p v a b m h at next other n u = (
-  subst (λ (q : Colour). q.0 < g.colours) u.next_is (one (next_colour a b u.steps) (next_cases a b u.steps)),
-  subst (λ (q : Colour). q.0 < g.colours) u.other_is (one (next_colour b a u.steps) (turned (next_cases b a u.steps))),
-)
-  where
-    one : (k : Colour) → (k ≡ a) ⊎ (k ≡ b) → k.0 < g.colours
-    one k c = elim c [ inl e ↦ subst (λ (q : Colour). q.0 < g.colours) (sym e) m.in_range | inr e ↦ subst (λ (q : Colour). q.0 < g.colours) (sym e) (p.colours_in_range h.0 b h.2.colour) ]
-
-    turned : {k : Colour} → (k ≡ b) ⊎ (k ≡ a) → (k ≡ a) ⊎ (k ≡ b)
-    turned c = elim c [ inl e ↦ inr e | inr e ↦ inl e ]
+underway_next g p v a b m h at next other n u = grind (arith, next_cases)
 
 pub next_pair : (a b : Colour) (steps : List WalkStep) → ((next_colour a b steps ≡ a) × (next_colour b a steps ≡ b)) ⊎ ((next_colour a b steps ≡ b) × (next_colour b a steps ≡ a))
 next_pair a b [] = inr (refl, refl)
 next_pair a b (s ∷ rest) = elim (next_pair b a rest) [ inl h ↦ inr h | inr h ↦ inl h ]
 
 pub underway_pair : (g : Colouring) (v : CopyId) (a b : Colour) (at : CopyId) (next other : Colour) (n : ℕ) → IsUnderway g v a b at next other n → ((next ≡ a) × (other ≡ b)) ⊎ ((next ≡ b) × (other ≡ a))
-underway_pair g v a b at next other n u =
-    elim (next_pair a b u.steps) [
-      | inl h ↦ inl (sym u.next_is ∙ h.0, sym u.other_is ∙ h.1)
-      | inr h ↦ inr (sym u.next_is ∙ h.0, sym u.other_is ∙ h.1)
-    ]
+underway_pair g v a b at next other n u = grind (arith, next_pair)

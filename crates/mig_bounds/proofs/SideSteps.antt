@@ -1,7 +1,7 @@
 -- Steps of the search of sides.
-use Rattle.mig_bounds.proofs.Common.{BestSide, ByComponent, ByDisk, BySide, ByTriple, Candidate, Incoming, IsBelow, IsBest, IsBestSide, IsCandidateOf, IsGraph, IsSideCandidate, List, Outgoing}
-use Rattle.mig_bounds.proofs.Common.{Side, Transfers, Transfer, [], ap, arith, cases_lt, disk_at, div_ceil, eq-eqb, get_or, get_or-le-sum_by, inl, inr, is_duplex, length, one, passes, place}
-use Rattle.mig_bounds.proofs.Common.{refl, set, side_limit, side_load, side_number, side_value, subst, suc, sym, true, value, zero, ℕ, ◌*◌, ◌+◌, ◌<◌, ◌∙◌, ◌∷◌, ◌≡◌, ◌≤◌, ◌⊎◌}
+use Rattle.mig_bounds.proofs.Common.{BestSide, Incoming, IsBestSide, IsGraph, List, Outgoing, Side, Transfers, Transfer, [], ap, arith, cases_lt}
+use Rattle.mig_bounds.proofs.Common.{disk_at, div_ceil, eq-eqb, get_or, get_or-le-sum_by, inl, inr, length, one, passes, refl, side_limit, side_load}
+use Rattle.mig_bounds.proofs.Common.{side_number, side_value, subst, suc, sym, true, value, zero, ℕ, ◌*◌, ◌+◌, ◌<◌, ◌∙◌, ◌∷◌, ◌≡◌, ◌≤◌, ◌⊎◌}
 
 -- a side without a load needs no rounds, and one that needs rounds has a load
 idle_side : (graph : Transfers) (v : ℕ) (side : Side) → side_load side v graph.transfers ≡ 0 → side_value graph side v ≡ 0
@@ -63,46 +63,10 @@ none_more graph w next idle none = with_next (λ v side. side_load side v graph.
 
 -- ---- the end of the search
 
--- a candidate's place in the order and its side's number
-number_below : (v w : ℕ) (side other : Side) → IsBelow (place (BySide v side)) (place (BySide w other)) → side_number v side < side_number w other
-number_below v w side other below = elim below [
-  | inl l ↦ absurd (omega (arith, l))
-  | inr t ↦ elim t.1 [
-    | inl l ↦ by_disk side other l
-    | inr u ↦ elim u.1 [ inl l ↦ omega (arith, u.0, l) | inr x ↦ absurd x.1 ]
-  ]
-]
-  where
-    by_disk : (side other : Side) → v < w → side_number v side < side_number w other
-    by_disk Outgoing Outgoing l = omega (arith, l)
-    by_disk Outgoing Incoming l = omega (arith, l)
-    by_disk Incoming Outgoing l = omega (arith, l)
-    by_disk Incoming Incoming l = omega (arith, l)
-
 -- the number of a side of a disk that is there is below the end
 number_there : (v n : ℕ) (side : Side) → v < n → side_number v side < 2 * n
 number_there v n Outgoing h = omega (arith, h)
 number_there v n Incoming h = omega (arith, h)
-
--- a side that is a candidate, among all of them
-pub is_best_side : (graph : Transfers) (best : BestSide) → is_duplex graph.disks ≡ true → IsBestSide graph best (2 * length graph.disks) → IsBest graph (BySide best.disk.0 best.side)
-is_best_side graph best split b = record {
-  candidate = subst (λ k. IsCandidateOf k graph (BySide best.disk.0 best.side)) (sym split) (b.there, omega (arith, b.load_is, b.loaded));
-  greatest = λ c is. most c (subst (λ k. IsCandidateOf k graph c) split is);
-  first = λ c is below. less c (subst (λ k. IsCandidateOf k graph c) split is) below;
-}
-  where
-    most : (c : Candidate) → IsSideCandidate graph c → value graph c ≤ side_value graph best.side best.disk.0
-    most (BySide v side) is = omega (arith, b.greatest v side (number_there v (length graph.disks) side is.0), b.value_is)
-    most (ByDisk v) is = absurd is
-    most (ByTriple x y z) is = absurd is
-    most (ByComponent set) is = absurd is
-
-    less : (c : Candidate) → IsSideCandidate graph c → IsBelow (place c) (place (BySide best.disk.0 best.side)) → value graph c < side_value graph best.side best.disk.0
-    less (BySide v side) is below = omega (arith, b.first v side (number_below v best.disk.0 side best.side below), b.value_is)
-    less (ByDisk v) is below = absurd is
-    less (ByTriple x y z) is below = absurd is
-    less (ByComponent set) is below = absurd is
 
 -- where no side has a load, there is no move
 pub no_side_transfers : (graph : Transfers) → IsGraph graph → ((v : ℕ) (side : Side) → side_number v side < 2 * length graph.disks → side_load side v graph.transfers ≡ 0) → graph.transfers ≡ []

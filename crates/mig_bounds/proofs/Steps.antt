@@ -85,13 +85,6 @@ below_next_disk graph (BySide w side) v is h = absurd is
 below_next_disk graph (ByTriple p q r) v is h = absurd (elim h [ inl l ↦ omega (arith, l) | inr t ↦ omega (arith, t.0) ])
 below_next_disk graph (ByComponent set) v is h = absurd (elim h [ inl l ↦ omega (arith, l) | inr t ↦ omega (arith, t.0) ])
 
--- no candidate comes before the first disk
-pub none_below_first : (c : Candidate) → IsBelow (place c) (0 ∷ 0 ∷ []) → ⊥
-none_below_first (ByDisk w) h = elim h [ inl l ↦ omega (arith, l) | inr t ↦ elim t.1 [ inl l ↦ omega (arith, l) | inr u ↦ u.1 ] ]
-none_below_first (BySide w side) h = elim h [ inl l ↦ omega (arith, l) | inr t ↦ elim t.1 [ inl l ↦ omega (arith, l) | inr u ↦ u.1 ] ]
-none_below_first (ByTriple p q r) h = elim h [ inl l ↦ omega (arith, l) | inr t ↦ omega (arith, t.0) ]
-none_below_first (ByComponent set) h = elim h [ inl l ↦ omega (arith, l) | inr t ↦ omega (arith, t.0) ]
-
 -- where no disk before this one takes part, no candidate is below it
 pub none_below_disk : (graph : Transfers) (c : Candidate) (v : ℕ) → ((w : ℕ) → w < v → IsTrue (takes_part graph w) → ⊥) → IsJointCandidate graph c → IsBelow (place c) (0 ∷ v ∷ []) → ⊥
 none_below_disk graph (ByDisk w) v none is h = elim h [ inl l ↦ omega (arith, l) | inr t ↦ elim t.1 [ inl l ↦ none w l is.1 | inr u ↦ u.1 ] ]

@@ -1,10 +1,10 @@
 -- Room that always suffices for a plan.
-use Rattle.mig_base.specs.declared.limits.TheConstants.{MAX_FILE_BYTES}
-use Rattle.mig_c.proofs.Common.{Answers, ThreeFiles, HandsBoth, Roomy, Slice, TOO_SHORT, accepted_valid, arith, length, plans_bytes, refl, sym, zero, suc, ℕ, ⊎_elim, ◌∙◌, ◌≡◌, ◌≢◌, ◌≤◌}
+use Rattle.mig_c.proofs.Common.{Answers, HandsBoth, MAX_FILE_BYTES, Roomy, Slice, TOO_SHORT, ThreeFiles, arith, code_most, length, plans_bytes, refl}
+use Rattle.mig_c.proofs.Common.{suc, sym, zero, ℕ, ⊎_elim, ◌∙◌, ◌≡◌, ◌≢◌, ◌≤◌}
 use Rattle.mig_c.proofs.HandedBack.{ends_done}
 use Rattle.mig_cert.proofs.CertLengths.{short_text as short_cert}
+use Rattle.mig_commands.proofs.Exactness.{accepted_valid}
 use Rattle.mig_text.proofs.ShiftCounts.{short_text as short_plan}
-use Rattle.mig_words.proofs.Statuses.{code_most}
 
 -- room is wanting only for texts of a command that is done
 wanting : {status result : ℕ} {AllFit : Type 0} → Answers status AllFit result → result ≡ TOO_SHORT → status ≢ TOO_SHORT → (status ≡ 0) × (AllFit → ⊥)

@@ -1,6 +1,7 @@
 -- What steps make of the lists that are kept.
-use Rattle.mig_calls.proofs.Common.{Back, Change, Changed, Crashed, FileMoment, FilePick, FilesMoment, FilesStep, Front, IsDisk, List, Named, New, Old, Ones, Place, SeenFile, [], after_step, ap, blank_files, files_after}
-use Rattle.mig_calls.proofs.Common.{change_file, changed, crashed, fold-append, look, map, map-append, no_file, on_file, place_of, refl, sym, with_name, ◌++◌, ◌∙◌, ◌∷◌, ◌≡◌}
+use Rattle.mig_calls.proofs.Common.{Back, Crashed, FileMoment, FilePick, FilesMoment, FilesStep, Front, IsDisk, List, Named, New, Old, Ones, Place}
+use Rattle.mig_calls.proofs.Common.{SeenFile, [], after_step, ap, blank_files, files_after, crashed, fold-append, look, map, map-append, no_file}
+use Rattle.mig_calls.proofs.Common.{on_file, place_of, refl, sym, with_name, ◌++◌, ◌∙◌, ◌∷◌, ◌≡◌}
 use Rattle.mig_calls.proofs.FileLists.{look-map, places-map, look-push}
 
 pub after-push : (steps : List FilesStep) (step : FilesStep) → files_after (steps ++ step ∷ []) ≡ after_step (files_after steps) step
@@ -29,14 +30,6 @@ module _ (steps new : List FilesStep) (table : List Place) (seen after_all : Lis
       none Front = refl
       none Back = refl
       none Ones = refl
-
-  pub one_changed : (place : Place) (change : Change) → map place_of after_all ≡ map place_of seen → ((other : Place) → look after_all other ≡ change_file place (changed change) (look seen) other)
-      → new ≡ steps ++ Changed place change ∷ [] → IsDisk new table after_all
-  one_changed place change places looks pushed = record {
-    places = is.places ∙ sym places;
-    shown = λ other. looks other ∙ ap (λ (files : Place → FileMoment). change_file place (changed change) files other) (λ i p. is.shown p i)
-        ∙ ap (λ (m : FilesMoment). m.files other) (sym (ap files_after pushed ∙ after-push steps (Changed place change)));
-  }
 
 -- a file that isn't there is kept
 pub one_added : (steps : List FilesStep) (table more : List Place) (seen after_all : List SeenFile) (place : Place) → IsDisk steps table seen → more ≡ table ++ place ∷ []

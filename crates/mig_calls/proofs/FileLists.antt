@@ -1,8 +1,9 @@
 -- Files that are held in a list.
-use Rattle.mig_calls.proofs.Common.{AreDifferent, Contains, Contains-get_or, Err, FileMoment, List, MemFile, Ok, OnErr, OnOk, Place, Result, SeenFile, Some, [], ap, arith, cases_Bool, change_file}
-use Rattle.mig_calls.proofs.Common.{cond, cond-false, cond-true, drop, false, false≢true, get_or, get_or_from_slice_get, inl, inr, is_place, length, length-map, length-take, look, map, map-set}
-use Rattle.mig_calls.proofs.Common.{file_moment, map-set_same, map_over_more, no_file, on_file, place_of, refl, seen_file, seen_files, set, slice_get, slice_get_within, subst, suc, sym, take, true}
-use Rattle.mig_calls.proofs.Common.{zero, ℕ, ◌++◌, ◌+◌, ◌<◌, ◌∙◌, ◌∷◌, ◌≡◌, ◌≤◌}
+use Rattle.mig_calls.proofs.Common.{AreDifferent, Contains, Contains-get_or, FileMoment, List, MemFile, Place, SeenFile, Some, [], ap, arith}
+use Rattle.mig_calls.proofs.Common.{cases_Bool, change_file, cond, cond-false, cond-true, drop, false, false≢true, get_or, get_or_from_slice_get, inl}
+use Rattle.mig_calls.proofs.Common.{inr, is_place, length, length-map, look, map, map-set, file_moment, map-set_same, map_over_more, no_file, on_file}
+use Rattle.mig_calls.proofs.Common.{place_of, refl, seen_file, seen_files, set, slice_get, slice_get_within, subst, suc, sym, take, true, zero, ℕ}
+use Rattle.mig_calls.proofs.Common.{◌++◌, ◌+◌, ◌<◌, ◌∙◌, ◌∷◌, ◌≡◌}
 use Rattle.std.proofs.lemmas.List.{get_or-map}
 use Rattle.std.proofs.Math.ListN as listn
 use Rattle.mig_calls.proofs.PlaceTests.{is_place-same, is_place-true, is_place-other}
@@ -73,9 +74,6 @@ module _ (seen : List SeenFile) (place : Place) where
     look-change change new d named file other =
         look-set place change seen i d new (found_within seen place i found) (λ j less. found_first seen place i found different j d less) (found_here seen place i found d) named file other
 
-    pub found_in : i < length seen
-    found_in = found_within seen place i found
-
 -- another file keeps the places
 pub places-map : (change : FileMoment → FileMoment) (seen : List SeenFile) → map place_of (map (on_file change) seen) ≡ map place_of seen
 places-map change [] = refl
@@ -88,14 +86,6 @@ look-map change none (s ∷ seen) place = elim (cases_Bool (is_place s.place pla
   | inl is ↦ cond-true _ _ _ is ∙ sym (ap change (cond-true _ _ _ is))
   | inr not ↦ cond-false _ _ _ not ∙ look-map change none seen place ∙ sym (ap change (cond-false _ _ _ not))
 ]
-
-pub on_ok : {T E A B : Type 0} (r : Result T E) → (A → B) → OnOk r A → OnOk r B
-on_ok (Ok x) f a = f a
-on_ok (Err e) f a = tt
-
-pub on_err : {T E A B : Type 0} (r : Result T E) → (A → B) → OnErr r A → OnErr r B
-on_err (Ok x) f a = tt
-on_err (Err e) f a = f a
 
 -- what is kept of one file changes
 module _ (items : List MemFile) (i : ℕ) (d new : MemFile) (at : d ≡ get_or items i d) (named : new.place ≡ d.place) where
@@ -135,6 +125,3 @@ look-push [] place other = elim (cases_Bool (is_place place other)) [
   | inr not ↦ cond-false _ _ _ not
 ]
 look-push (s ∷ seen) place other = ap (λ (f : FileMoment). cond (is_place s.place other) s.file f) (look-push seen place other)
-
-pub take_most : (n : ℕ) (values : List ℕ) → length (take n values) ≤ length values
-take_most n values = omega (arith, length-take n values)

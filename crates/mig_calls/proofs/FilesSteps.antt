@@ -1,6 +1,6 @@
 -- One change of files after another.
-use Rattle.mig_calls.proofs.Common.{Bool, Err, FilesChange, FilesLook, FilesState, IsLeftFilesBut, IsWithin, KeepsFlags, KeepsRights, Ok, OnErr, OnOk, Place, PlaceBytes, Result, TouchesFile, arith, inl, inr, ℕ}
-use Rattle.mig_calls.proofs.Common.{◌∙◌, ◌≡◌, ◌≤◌, ◌⊎◌}
+use Rattle.mig_calls.proofs.Common.{Bool, Err, FilesChange, FilesLook, FilesState, IsLeftFilesBut, IsWithin, Ok, OnErr, OnOk, Place, PlaceBytes}
+use Rattle.mig_calls.proofs.Common.{Result, TouchesFile, arith, inl, inr, ℕ, ◌∙◌, ◌≡◌, ◌≤◌, ◌⊎◌}
 
 module _ {P : Place → ℕ → Type 0} {a b c : FilesState} (first : FilesChange P P a b) (second : FilesChange P P b c) where
   back_two : (files : PlaceBytes) → IsLeftFilesBut P b files → IsLeftFilesBut P a files
@@ -45,9 +45,6 @@ change_within {P} {Q} {a} {b} within change = record {
 
 pub look_change : {P : Place → ℕ → Type 0} {a b : FilesState} → FilesLook a b → FilesChange P P a b
 look_change = change_within (λ place i none. absurd none)
-
-pub rights_then : {a b c : FilesState} → KeepsRights a b → KeepsRights b c → KeepsRights a c
-rights_then first second = record { claimed = second.claimed ∙ first.claimed; usable = second.usable ∙ first.usable }
 
 pub touches_then : {place : Place} {a b c : FilesState} → TouchesFile place a b → TouchesFile place b c → TouchesFile place a c
 touches_then first second = record { others = λ other not. second.others other not ∙ first.others other not }

@@ -1,9 +1,11 @@
 -- What steps change of files in memory.
-use Rattle.mig_calls.proofs.Common.{Bool, Byte, Change, Changed, FileMoment, FilesChange, FilesLook, FilesWrite, FitsFile, HasBytes, IsLeftFilesBut, IsWithin, PlaceBytes}
-use Rattle.mig_calls.proofs.Common.{FileMemory, FilesLeftSince, FilesMoment, FilesStep, KeepsFlags, KeepsRights, List, Made, MayHold, MayLeaveFiles, Named, NoByte, Option, Place, SameFilesBut, Synced, TouchesFile, Wrote}
-use Rattle.mig_calls.proofs.Common.{[], after_step, after_write, and-false, and_from, ap, arith, cases_Bool, cases_lt, changed, cond, cond-false, cond-true, false, false≢true, files_after}
-use Rattle.mig_calls.proofs.Common.{files_state, inl, inr, is_place, le-ltb, length, length-append, lt-ltb, nat_lt, not, reads_of, refl, slice_get, slice_get-get_or, slice_get_past}
-use Rattle.mig_calls.proofs.Common.{slice_index, subst, sym, take-append-le, take_all, with_name, with_written, written_over, ℕ, ◌&&◌, ◌++◌, ◌+◌, ◌-◌, ◌<◌, ◌∙◌, ◌∷◌, ◌≡◌, ◌≤◌, ◌⊎◌}
+use Rattle.mig_calls.proofs.Common.{Bool, Byte, Change, Changed, FileMoment, FilesChange, FilesLook, FilesWrite, FitsFile, HasBytes, IsLeftFilesBut}
+use Rattle.mig_calls.proofs.Common.{IsWithin, PlaceBytes, FileMemory, FilesLeftSince, FilesMoment, FilesStep, List, Made, MayHold, MayLeaveFiles}
+use Rattle.mig_calls.proofs.Common.{Named, NoByte, Option, Place, SameFilesBut, Synced, TouchesFile, Wrote, [], after_step, after_write, and-false}
+use Rattle.mig_calls.proofs.Common.{and_from, ap, arith, cases_Bool, cases_lt, changed, cond, cond-false, cond-true, false, false≢true, files_after}
+use Rattle.mig_calls.proofs.Common.{files_state, inl, inr, is_place, le-ltb, length, length-append, lt-ltb, nat_lt, not, reads_of, refl, slice_get}
+use Rattle.mig_calls.proofs.Common.{slice_get-get_or, slice_get_past, slice_index, subst, sym, take-append-le, take_all, with_name, with_written}
+use Rattle.mig_calls.proofs.Common.{written_over, ℕ, ◌&&◌, ◌++◌, ◌+◌, ◌-◌, ◌<◌, ◌∙◌, ◌∷◌, ◌≡◌, ◌≤◌, ◌⊎◌}
 use Rattle.mig_calls.proofs.PlaceTests.{is_place-true, is_place-itself, is_place-other}
 use Rattle.mig_calls.proofs.Disks.{after-push}
 
@@ -19,16 +21,6 @@ kept_change P x y same refused = subst (λ (l : List FilesStep). FilesChange P P
   keeps = λ t files le left. left;
   images = λ was p. inl (λ i calm. refl);
 })
-
-pub kept_rights : (x y : FileMemory) → y.claimed ≡ x.claimed → y.usable ≡ x.usable → KeepsRights (files_state x) (files_state y)
-kept_rights x y claimed usable = record { claimed = λ j. claimed j && usable j; usable = usable }
-
-pub kept_flags : (x y : FileMemory) → y.steps ≡ x.steps → y.claimed ≡ x.claimed → y.usable ≡ x.usable → KeepsFlags (files_state x) (files_state y)
-kept_flags x y same claimed usable = record {
-  rights = kept_rights x y claimed usable;
-  named = λ j. (files_after (same j)).named;
-  flushed = λ j place. ((files_after (same j)).files place).flushed;
-}
 
 pub kept_at : (P : Place → ℕ → Type 0) (x : FileMemory) (steps : List FilesStep) (faults refused unmade : ℕ) (claimed usable : Bool) → steps ≡ x.steps → x.refused ≤ refused
     → FilesChange P P (files_state x) (files_state (record { steps = steps; faults = faults; refused = refused; unmade = unmade; claimed = claimed; usable = usable }))

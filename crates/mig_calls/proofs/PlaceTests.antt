@@ -1,7 +1,10 @@
 -- Whether files are the same, and lists of different files.
-use Rattle.mig_calls.proofs.Common.{AllPairs-from_IsDistinct, AreDifferent, Bool, Contains, Contains-from_any, Decides, Disk, IndexSet, IsEquivalence, IsUnique, Journal, List, MatchOption}
-use Rattle.mig_calls.proofs.Common.{None, Option, Place, Some, [], ap, bytes_eq, cases_Bool, cond, eq-value, false, false_from_ne_true, false≢true, inl, inr, insert_key, is_place, is_some}
-use Rattle.mig_calls.proofs.Common.{list_any, list_any-from_Contains, other_text, position, position-Some, refl, same_text, slice_get, slice_get-get_or, sym, true, ℕ, ◌++◌, ◌∙◌, ◌∷◌, ◌≡◌}
+use Rattle.mig_calls.proofs.Common.{AllPairs-from_IsDistinct, AreDifferent, Bool, Contains, Contains-from_any, Decides, Disk, IndexSet, IsUnique}
+use Rattle.mig_calls.proofs.Common.{Journal, List, MatchOption, None, Option, Place, Some, [], ap, bytes_eq, cases_Bool, cond, eq-value, false}
+use Rattle.mig_calls.proofs.Common.{false_from_ne_true, false≢true, inl, inr, insert_key, is_place, is_some, list_any, list_any-from_Contains}
+use Rattle.mig_calls.proofs.Common.{other_text, position, position-Some, refl, same_text, slice_get, slice_get-get_or, sym, true, ℕ, ◌++◌, ◌∙◌, ◌∷◌}
+use Rattle.mig_calls.proofs.Common.{◌≡◌}
+use Rattle.mig_calls.specs.contracts.places.PlaceEq.TheImpl.Laws.{laws-law}
 
 pub is_place-true : (p q : Place) → is_place p q ≡ true → p ≡ q
 is_place-true (Disk d) (Disk e) is = ap Disk (same_text d e (sym is))
@@ -38,20 +41,10 @@ eq-same a b is = is_place-true a b (sym (eq-is a b) ∙ is)
 pub eq-decides : (a b : Place) → Decides (eq a b) (a ≡ b)
 eq-decides a b = (eq-same a b, λ same. eq-is a b ∙ is_place-same a b same)
 
-equivalence : IsEquivalence eq
-equivalence = record {
-  refl = λ a. (eq-decides a a).1 refl;
-  symm = λ a b. elim (cases_Bool (eq a b)) [
-    | inl is ↦ is ∙ sym ((eq-decides b a).1 (sym (eq-same a b is)))
-    | inr not ↦ not ∙ sym (false_from_ne_true _ (λ is. false≢true (sym not ∙ (eq-decides a b).1 (sym (eq-same b a is)))))
-  ];
-  congr = λ a b c is. ap (λ (place : Place). eq place c) (eq-same a b is);
-}
-
 -- what a look-up of a file says
 pub found_place : (places : List Place) (place : Place) (r : Option ℕ) → r ≡ position (eq place) places → is_some r ≡ list_any (eq place) places
     → MatchOption r (¬ (Contains places place)) (λ k. slice_get places k ≡ Some place)
-found_place places place None at found = λ has. false≢true (found ∙ list_any-from_Contains equivalence place places has)
+found_place places place None at found = λ has. false≢true (found ∙ list_any-from_Contains laws-law place places has)
 found_place places place (Some k) at found =
     let p = position-Some (eq place) places k place (sym at) in
     slice_get-get_or places k place p.0 ∙ ap Some (sym (eq-same place _ p.1))

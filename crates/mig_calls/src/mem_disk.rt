@@ -25,22 +25,12 @@ pub enum FilesStep {
 }
 
 /// Files in memory, and the steps that made them. Reads and changes don't depend on how many steps there were.
+#[derive(Drop)]
 pub struct MemDisk {
     alloc: Global,
     table: PlaceTable,
     files: Vec<MemFile>,
     steps: Vec<FilesStep>,
-}
-
-impl Drop for MemDisk {
-    fn drop(self) {
-        let MemDisk {
-            alloc: _,
-            table: _table,
-            files: _files,
-            steps: _steps,
-        } = self;
-    }
 }
 
 impl Model for MemDisk {

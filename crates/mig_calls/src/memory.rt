@@ -2,13 +2,12 @@
 ghost use Rattle.std.specs.Prelude.{◌≡◌, ◌≤◌, ◌<◌, ◌+◌, true, false, ◌++◌, ◌∷◌, [], ℕ, IsTrue, IsFalse, IfOk, IfErr, OnOk, OnErr, length, slice_index};
 ghost use Rattle.mig_base.specs.FaultCounts.{Rose};
 ghost use Rattle.mig_calls.specs.declared.calls.CallError.TheVariants.{Failed};
-ghost use Rattle.mig_calls.specs.declared.mem_file.Change.TheVariants.{Made};
 ghost use Rattle.mig_calls.specs.declared.mem_disk.FilesStep.TheVariants.{Changed, Crashed};
 ghost use Rattle.mig_calls.specs.declared.places.Place.{Place as Places};
 ghost use Rattle.mig_calls.specs.FileBytes.{picked_byte};
 ghost use Rattle.mig_calls.specs.MemFiles.{left_file};
 ghost use Rattle.mig_calls.specs.Files.{FilesState, FilesLook, FilesWrite, KeepsFlags, TouchesFile, IsSettledAt, HasBytes, EndsAt, HasCallCause};
-ghost use Rattle.mig_calls.specs.Memory.{FileMemory, files_state, mem_is_state, files_after, reads_of};
+ghost use Rattle.mig_calls.specs.Memory.{FileMemory, files_state, mem_is_state, files_after};
 
 use crate::calls::{CallError, Calls, Extent, Written};
 use crate::mem_disk::MemDisk;
@@ -234,19 +233,6 @@ impl MemCalls {
         }
     }
 
-    // The file is made: the device may go on having none under its name.
-    fn mark(&mut self, place: &Place) -> Result<(), CallError>
-        ensures look { FilesLook (files_state self.old) (files_state self.new) }
-        ensures shown { reads_of (files_after self.new.steps) ≡ reads_of (files_after self.old.steps) }
-        ensures flushed { (files_state self.new).flushed ≡ (files_state self.old).flushed }
-        ensures failed { IfErr result (λ error. error ≡ Failed) }
-        ensures claimed { self.new.claimed ≡ self.old.claimed }
-        ensures usable { self.new.usable ≡ self.old.usable }
-        ensures cause { HasCallCause (files_state self.old) (files_state self.new) result }
-    {
-        self.change(place, Change::Made)
-    }
-
     // Makes the file where it isn't there, and tells whether it did.
     fn make(&mut self, place: &Place) -> Result<bool, CallError>
         ensures look { FilesLook (files_state self.old) (files_state self.new) }
@@ -263,7 +249,7 @@ impl MemCalls {
         if there {
             return Ok(false);
         }
-        self.mark(place)?;
+        self.change(place, Change::Made)?;
         Ok(true)
     }
 
@@ -351,13 +337,6 @@ impl MemCalls {
         self.name()
     }
 
-    // The file isn't open.
-    fn shut(&mut self, place: &Place)
-        ensures { self.new ≡ self.old }
-    {
-        let _was_open = self.opened.swap_remove(place);
-    }
-
     // How many of so many bytes a call moves.
     fn most(&self, len: usize) -> usize
         ensures most { result ≤ len }
@@ -429,7 +408,7 @@ impl Calls for MemCalls {
     }
 
     fn close(&mut self, place: &Place) {
-        self.shut(place);
+        let _was_open = self.opened.swap_remove(place);
     }
 
     fn refuse(&mut self, why: &Refusal) {

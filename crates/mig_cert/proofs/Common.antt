@@ -1,10 +1,11 @@
 -- The names that the proofs of this crate cite, passed on from one place. Declares nothing.
 pub use Rattle.mig_base.proofs.CertSpelling.{cert_lines_lack, disk_words_lack, nothing_lacks, same_side_word, side_words_lack, spelt}
-pub use Rattle.mig_base.proofs.Common.{All, All-push, AllByRecursion, Bool, BoundFits, CertText, Err, FitsAlong, FitsLine, IfOk, InputLists, IsDiskSet, IsInput, IsLine, IsMisfit, List, MatchOption}
-pub use Rattle.mig_base.proofs.Common.{MatchResult-weaker, None, Ok, Option, Result, Some, Stops, [], ap, append-nil, append_assoc, arith, bound_lines, bound_set, cases_lt, cert_lines}
-pub use Rattle.mig_base.proofs.Common.{cert_title, class_word, codes, common_steps, cond, decimal, decimal_injective, disk_name, drop, false, get_or, get_or-append_seam, inl, inr, is_duplex}
-pub use Rattle.mig_base.proofs.Common.{is_ok, length, length-append, length-decimal-le, map, no_disk, not, pieces, refl, subst, suc, sym, text_of_lines, transfer_graph, true, words, ℕ, ◌*◌, ◌++◌, ◌+◌}
-pub use Rattle.mig_base.proofs.Common.{◌-◌, ◌<◌, ◌^◌, ◌∙◌, ◌∷◌, ◌≡◌, ◌≢◌, ◌≤◌}
+pub use Rattle.mig_base.proofs.Common.{All, All-push, AllByRecursion, Bool, BoundFits, CertText, Err, FitsAlong, FitsLine, IfOk, InputLists}
+pub use Rattle.mig_base.proofs.Common.{IsDiskSet, IsInput, IsLine, IsMisfit, List, MatchOption, MatchResult-weaker, None, Ok, Option, Result, Some}
+pub use Rattle.mig_base.proofs.Common.{Stops, [], ap, append-nil, append_assoc, arith, bound_lines, bound_set, cases_lt, cert_lines, cert_title}
+pub use Rattle.mig_base.proofs.Common.{class_word, codes, cond, decimal, decimal_injective, disk_name, drop, false, get_or, inl, inr, is_duplex}
+pub use Rattle.mig_base.proofs.Common.{is_ok, length, length-append, length-decimal-le, map, no_disk, not, pieces, refl, subst, suc, sym}
+pub use Rattle.mig_base.proofs.Common.{text_of_lines, transfer_graph, true, words, ℕ, ◌*◌, ◌++◌, ◌+◌, ◌-◌, ◌<◌, ◌^◌, ◌∙◌, ◌∷◌, ◌≡◌, ◌≢◌, ◌≤◌}
 pub use Rattle.mig_base.proofs.KeptLimits.{ends_small, limits_at, side_small}
 pub use Rattle.mig_base.proofs.Separators.{Lacks, Lacks-decimal, same_words}
 pub use Rattle.mig_base.proofs.Spelling.{lacks_test, same_place}
@@ -30,9 +31,7 @@ pub use Rattle.mig_text.proofs.LineWords.{line_is, words_are, words_of}
 pub use Rattle.mig_text.proofs.Places.{Leads-append, no_misfit, pieces_of_lines}
 pub use Rattle.mig_text.proofs.PlanLengths.{text_append, text_cons, word_cons}
 pub use Rattle.mig_text.proofs.PlanReads.{text_from_pieces}
-pub use Rattle.mig_text.proofs.Stops.{later_stops, miss_stops, took_next, took_none, took_one}
+pub use Rattle.mig_text.proofs.Stops.{later_stops, miss_stops, took_next, took_one}
 pub use Rattle.mig_text.specs.Reads.{EndsWrong, IfLine, IsCountUpTo, IsMiss, IsStop, Left, Took, TookAll}
 pub use Rattle.mig_text.specs.declared.errors.TextError.{TextError}
-pub use Rattle.std.proofs.Common.{rules}
-pub use Rattle.std.proofs.Math.ListN.{get_or-append}
 pub use Rattle.std.proofs.lemmas.Result.{err_from_is_err_and}

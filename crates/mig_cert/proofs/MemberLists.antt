@@ -1,40 +1,22 @@
 -- The reading of a set's disks, one by one.
-use Rattle.mig_cert.proofs.Common.{All, All-push, AreMembersPart, CertNext, DiskId, FitsAlong, InputLists, IsDiskSet, IsMemberLine, IsMiss, IsStop, Leads-append, Left, List, Member, Over, TextError, Took}
-use Rattle.mig_cert.proofs.Common.{TookAll, [], ap, arith, before_members, cases_lt, disk_name, get_or, get_or-append, get_or-append_seam, inl, inr, later_stops, length, length-append, map}
-use Rattle.mig_cert.proofs.Common.{member_lines, miss_stops, refl, subst, suc, sym, took_next, took_none, ℕ, ◌++◌, ◌+◌, ◌-◌, ◌<◌, ◌∙◌, ◌∷◌, ◌≡◌, ◌≤◌}
+use Rattle.mig_cert.proofs.Common.{All-push, AreMembersPart, CertNext, DiskId, FitsAlong, InputLists, IsMemberLine, IsMiss, IsStop, Leads-append}
+use Rattle.mig_cert.proofs.Common.{Left, List, Member, Over, TextError, Took, TookAll, [], arith, before_members, disk_name, later_stops, length}
+use Rattle.mig_cert.proofs.Common.{length-append, map, member_lines, miss_stops, refl, subst, suc, sym, took_next, ℕ, ◌++◌, ◌+◌, ◌-◌, ◌<◌, ◌∷◌, ◌≡◌}
+use Rattle.mig_cert.proofs.Common.{◌≤◌}
 use Rattle.std.proofs.lemmas.List as lists
+use Rattle.std.proofs.lemmas.List.Quantifiers.{all_pairs_push}
 
 map_push : {X Y : Type 0} (f : X → Y) (xs : List X) (x : X) → map f (xs ++ x ∷ []) ≡ map f xs ++ f x ∷ []
 map_push f xs x = lists.map-append f xs (x ∷ [])
 
--- a disk with a higher number goes last
-set_push : (ids : List DiskId) (d : DiskId) → IsDiskSet ids → All (λ (x : DiskId). x.0 < d.0) ids → IsDiskSet (ids ++ d ∷ [])
-set_push ids d rising below i j x less within =
-    let len = length-append ids (d ∷ []) in
-    let front : get_or (ids ++ d ∷ []) i x ≡ get_or ids i x = get_or-append ids (d ∷ []) x i (omega (arith, len)) in
-    elim (cases_lt j (length ids)) [
-      | inl inside ↦ rw (front, get_or-append ids (d ∷ []) x j inside) (rising i j x less inside)
-      | inr end ↦
-          let at : j ≡ length ids = omega (arith, len) in
-          let last : get_or (ids ++ d ∷ []) j x ≡ d = ap (λ k. get_or (ids ++ d ∷ []) k x) at ∙ get_or-append_seam ids d [] x in
-          rw (front, last) (below i x (omega arith))
-    ]
-
 module _ (input : InputLists) where
-  pub members_none : (old : Left) → AreMembersPart input 0 0 [] old old
-  members_none old = record {
-    read = record { all = refl; below = λ k d h. absurd (omega arith); increasing = λ i j d l h. absurd (omega arith); took = took_none old };
-    before = λ k d h. absurd (omega arith);
-    leads = λ more. let e : more ≡ 0 + more = omega arith in ap (λ n. before_members n 0) e;
-  }
-
   pub members_more : (count from : ℕ) (ids : List DiskId) (d : DiskId) (old now new : Left) → AreMembersPart input count from ids old now → from ≤ d.0 → d.0 < length input.disks → Took now (disk_name input d.0) new
       → AreMembersPart input (count + 1) (d.0 + 1) (ids ++ d ∷ []) old new
   members_more count from ids d old now new part low high t = record {
     read = record {
       all = omega (arith, part.read.all, length-append ids (d ∷ []));
       below = All-push (λ (x : DiskId). x.0 < length input.disks) ids d part.read.below high;
-      increasing = set_push ids d part.read.increasing (λ k x h. omega (arith, part.before k x h));
+      increasing = all_pairs_push (λ (a b : DiskId). a.0 < b.0) ids d part.read.increasing (λ k x h. omega (arith, part.before k x h));
       took = subst (λ ls. TookAll old ls new) (sym (map_push (λ (x : DiskId). disk_name input x.0) ids d)) (took_next old now new (member_lines input ids) (disk_name input d.0) part.read.took t);
     };
     before = All-push (λ (x : DiskId). x.0 < d.0 + 1) ids d (λ k x h. omega (arith, part.before k x h)) (omega arith);

@@ -1,5 +1,5 @@
 -- In how many shifts an item stands.
-use Rattle.mig_check.proofs.Common.{All, All-head, All-tail, AllPairs, At, Bool, DiskId, InputLists, IsInput, IsMovedTooOften, IsTooOften, IsTrue, List, Once, Runs, Shift, Some, Spot, [], ap, arith}
+use Rattle.mig_check.proofs.Common.{All, All-head, All-tail, AllPairs, At, Bool, DiskId, InputLists, IsInput, IsTooOften, IsTrue, List, Once, Runs, Shift, Some, Spot, [], ap, arith}
 use Rattle.mig_check.proofs.Common.{cases_Bool, cases_eq, cases_lt, count_by, eq-eqb, false, get_or, get_or-le-sum_by, inl, inr, is_of, is_relocated, length, ne_eqb, no_spot, one, option_map}
 use Rattle.mig_check.proofs.Common.{refl, round_at, shift_count, slice_get, slice_get-get_or, source, spot_before, suc, sum_by, sum_by-append, sum_by-cons, sym, take, take_more, target, true, ℕ}
 use Rattle.mig_check.proofs.Common.{◌+◌, ◌<◌, ◌∙◌, ◌∷◌, ◌≡◌, ◌≢◌, ◌≤◌}
@@ -75,22 +75,3 @@ once_from input plan counts valid runs len counted right item there = elim (case
 
     not_both' : {b : Bool} → b ≡ false → IsTrue b → ⊥
     not_both' f t = not_both t f
-
--- the least item that is counted too often is moved too often
-pub too_often : (input : InputLists) (plan : List (List Shift)) (counts : List ℕ) → length counts ≡ length input.items → ((item : ℕ) → item < length counts → get_or counts item 0 ≡ shift_count plan item) → (item : ℕ) → IsTooOften input counts item → IsMovedTooOften input plan item
-too_often input plan counts len counted item h = (
-  h.0,
-  elim h.1 [
-    | inl more ↦ inl (omega (arith, more, counted item (omega (arith, h.0, len))))
-    | inr some ↦ inr (omega (arith, some.0, counted item (omega (arith, h.0, len))), some.1)
-  ],
-)
-
-pub too_often_down : (input : InputLists) (plan : List (List Shift)) (counts : List ℕ) → length counts ≡ length input.items → ((item : ℕ) → item < length counts → get_or counts item 0 ≡ shift_count plan item) → (item : ℕ) → IsMovedTooOften input plan item → IsTooOften input counts item
-too_often_down input plan counts len counted item h = (
-  h.0,
-  elim h.1 [
-    | inl more ↦ inl (omega (arith, more, counted item (omega (arith, h.0, len))))
-    | inr some ↦ inr (omega (arith, some.0, counted item (omega (arith, h.0, len))), some.1)
-  ],
-)

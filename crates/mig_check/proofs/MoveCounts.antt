@@ -77,9 +77,6 @@ general_class graph joint odd = by_class (class_of graph) refl
     by_class General e = sym e
     by_class Duplex e = absurd (false≢true (sym joint ∙ (class_is_duplex graph).0 e))
 
-pub duplex_class : (graph : Transfers) → is_duplex graph.disks ≡ true → ◌≡◌ {A = Class} Duplex (class_of graph)
-duplex_class graph duplex = sym ((class_is_duplex graph).1 duplex)
-
 -- Sets of disks
 
 at_least : (set : List DiskId) → IsDiskSet set → (k : ℕ) (d : DiskId) → k < length set → k ≤ (get_or set k d).0

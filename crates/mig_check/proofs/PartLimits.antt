@@ -1,9 +1,9 @@
 -- Parts of ends, and the limits and quotients that they make.
-use Rattle.mig_check.proofs.Common.{All, Bool, Both, Disk, DiskId, IfNone, IfSome, Incoming, IsInput, IsLeastOver, IsLesserOf, IsOver, IsOverLimit, IsPartOver, Joint, KeepsLimit, KeepsLimits}
+use Rattle.mig_check.proofs.Common.{Both, DiskId, IfNone, IfSome, Incoming, IsInput, IsLeastOver, IsLesserOf, IsOver, IsOverLimit, IsPartOver, Joint, KeepsLimit, KeepsLimits}
 use Rattle.mig_check.proofs.Common.{InputLists, KeepsPart, Leaving, Limits, List, MatchOption, None, Option, Outgoing, Part, Reaching, Shift, Some, Split, Transfers, Transfer, [], ap, arith, cases_lt}
 use Rattle.mig_check.proofs.Common.{disk_at, disk_value, false, false≢true, get_or, get_or-range_with_len, greatest, inl, inr, is_duplex, is_split, keeps_joint, kind_at, length}
-use Rattle.mig_check.proofs.Common.{length-range_with_len, load, map, map_same, max, no_disk, part_load, part_quotient, part_value, quotient, range_with_len, refl, rounds_for, rounds_for_joint}
-use Rattle.mig_check.proofs.Common.{side_in_load, subst, suc, sym, transfer_graph, transfer_of, true, zero, ℕ, ◌+◌, ◌<◌, ◌∙◌, ◌∷◌, ◌≡◌, ◌≤◌, ◌⊎◌}
+use Rattle.mig_check.proofs.Common.{length-range_with_len, load, map, map_same, max, part_load, part_quotient, part_value, quotient, range_with_len, refl, rounds_for, rounds_for_joint}
+use Rattle.mig_check.proofs.Common.{side_in_load, suc, sym, transfer_graph, transfer_of, true, zero, ℕ, ◌+◌, ◌<◌, ◌∙◌, ◌≡◌, ◌≤◌, ◌⊎◌}
 use Rattle.mig_check.proofs.MoveCounts.{greatest_more}
 
 pub part_in_load : (part : Part) (v : ℕ) (transfers : List Transfer) → part_load part v transfers ≤ load v transfers

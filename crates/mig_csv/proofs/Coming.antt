@@ -1,6 +1,6 @@
 -- The items that are still to be counted among those that come to a disk.
-use Rattle.mig_csv.proofs.Common.{Bool, InputLists, List, ap, arith, cond, count_by, false, filter, incoming, is_relocated, length, range_with_len, suc, sum_by-cons, target, true, ℕ, ◌&&◌, ◌+◌, ◌-◌}
-use Rattle.mig_csv.proofs.Common.{◌<◌, ◌==◌, ◌∙◌, ◌∷◌, ◌≡◌, ◌≤◌}
+use Rattle.mig_csv.proofs.Common.{Bool, InputLists, List, ap, arith, cond, count_by, false, filter, incoming, is_relocated, length, range_with_len}
+use Rattle.mig_csv.proofs.Common.{suc, sum_by-cons, target, true, ℕ, ◌&&◌, ◌+◌, ◌-◌, ◌<◌, ◌==◌, ◌∷◌, ◌≡◌, ◌≤◌}
 
 -- of the items from this number on
 abbrev pub left_from : InputLists → ℕ → ℕ → ℕ
@@ -17,9 +17,7 @@ kept q true item rest = sum_by-cons (λ m. cond (q m) 1 0) item rest
 kept q false item rest = omega arith
 
 pub left_from-next : (i : InputLists) (v item : ℕ) → item < length i.items → left_from i v item ≡ cond (is_relocated i item && (target i item == v)) 1 0 + left_from i v (item + 1)
-left_from-next i v item h =
-    ap (λ (xs : List ℕ). count_by (λ m. target i m == v) (filter (is_relocated i) xs)) (next_range item (length i.items) h)
-    ∙ kept (λ m. target i m == v) (is_relocated i item) item (filter (is_relocated i) (range_with_len (item + 1) (length i.items - (item + 1))))
+left_from-next i v item h = grind (arith, next_range, kept)
 
 pub left_from-end : (i : InputLists) (v item : ℕ) → length i.items ≤ item → left_from i v item ≡ 0
 left_from-end i v item h = let e : length i.items - item ≡ 0 = omega arith in ap (λ (n : ℕ). count_by (λ m. target i m == v) (filter (is_relocated i) (range_with_len item n))) e

@@ -50,9 +50,7 @@ pub no_fault : (has : List Row → Row → Why → Type 0) (header : Row) (bytes
     → records_of bytes ≡ header ∷ done → Sound has done → (n : ℕ) (w : Why) → ¬ (FileFault has header bytes n w)
 no_fault has header bytes done short e s n why.TooLong h = let p = h.1 in omega arith
 no_fault has header bytes done short e s n why.BadHeader h = h.1 (rw e refl)
-no_fault has header bytes done short e s n w h =
-    let f = subst (λ rs. IsRowFault has rs n w) (rows header bytes done e) h in
-    s.each f.place f.row w f.at f.holds
+no_fault has header bytes done short e s n w h = grind (arith, rows)
 
 -- the causes of a row are none of those of the whole file
 pub record OfRows (has : List Row → Row → Why → Type 0) : Type 0 where
@@ -147,15 +145,7 @@ ReadSoFar-fault {bytes} {left} {names} s r rest w e f =
 
 -- a file whose header was read
 pub ReadSoFar-start : {bytes : List ℕ} (left : List Row) → length bytes ≤ MAX_FILE_BYTES → records_of bytes ≡ header_row file.Disks (has_sides bytes) ∷ left → ReadSoFar bytes left [] []
-ReadSoFar-start {bytes} left short e = record {
-  short = short;
-  done = [];
-  records = e;
-  sound = Sound-nil (has_fault (has_sides bytes));
-  few = omega arith;
-  named = refl;
-  listed = refl;
-}
+ReadSoFar-start {bytes} left short e = grind (arith, Sound-nil)
 
 -- the names are those of the disks
 pub ReadSoFar-names : {bytes : List ℕ} {left : List Row} {names : List (List ℕ)} {disks : List Disk} → ReadSoFar bytes left names disks → names ≡ map (λ (d : Disk). d.name) disks

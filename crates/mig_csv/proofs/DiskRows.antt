@@ -1,7 +1,8 @@
-use Rattle.mig_csv.proofs.Common.{AreInRange, AreNumbersOf, Bool, Contains, Disk, DisksRowFault, HasNumbers, IsDiskInRange, IsLimit, IsName, Joint, List, MAX_DISKS, MatchOption}
-use Rattle.mig_csv.proofs.Common.{None, Numbers, Option, Row, Some, Split, Why, [], arith, disk_of, disk_width, false, false≢true, first, get_or_from_slice_get, is_some}
+use Rattle.mig_csv.proofs.Common.{AreInRange, AreNumbersOf, Bool, Contains, DisksRowFault, HasNumbers, IsDiskInRange, IsName, List, MAX_DISKS}
+use Rattle.mig_csv.proofs.Common.{MatchOption, None, Numbers, Option, Row, Some, Why, [], arith, disk_of, disk_width, false, false≢true, first}
+use Rattle.mig_csv.proofs.Common.{get_or_from_slice_get, is_some, length, rank_of, refl, slice_get, slice_get_within, suc, sym, true, zero, ℕ, ◌<◌}
+use Rattle.mig_csv.proofs.Common.{◌↔◌, ◌∷◌, ◌≡◌}
 use Rattle.csv.specs.Records.{field_at}
-use Rattle.mig_csv.proofs.Common.{length, limits_by, rank_of, refl, slice_get, slice_get_within, subst, suc, sym, true, zero, ℕ, ◌<◌, ◌↔◌, ◌∷◌, ◌≡◌, ◌≤◌}
 use Rattle.mig_base.specs.declared.faults.Why.TheVariants as why
 
 -- no cause before the place n in the order of causes holds of a row of the disks file
@@ -36,16 +37,5 @@ not_found names n (Some k) m e = absurd (false≢true (sym e))
 
 -- numbers are in range exactly where the row's disk is
 pub range_of : (sides : Bool) (r : Row) (n : Numbers) → AreNumbersOf sides r n → AreInRange n ↔ IsDiskInRange (disk_of sides r)
-range_of false r n a = (
-  λ h. (subst IsLimit a.outgoing_is h.0, subst (λ k. 1 ≤ k) a.slots_is h.2, subst (λ k. k ≤ 65536) a.slots_is h.3),
-  λ h. (subst IsLimit (sym a.outgoing_is) h.0, subst IsLimit (sym a.incoming_is) h.0, subst (λ k. 1 ≤ k) (sym a.slots_is) h.1, subst (λ k. k ≤ 65536) (sym a.slots_is) h.2),
-)
-range_of true r n a = (
-  λ h. ((subst IsLimit a.outgoing_is h.0, subst IsLimit a.incoming_is h.1), subst (λ k. 1 ≤ k) a.slots_is h.2, subst (λ k. k ≤ 65536) a.slots_is h.3),
-  λ h. (subst IsLimit (sym a.outgoing_is) h.0.0, subst IsLimit (sym a.incoming_is) h.0.1, subst (λ k. 1 ≤ k) (sym a.slots_is) h.1, subst (λ k. k ≤ 65536) (sym a.slots_is) h.2),
-)
-
--- they make the row's disk
-pub disk_by : (sides : Bool) (r : Row) (n : Numbers) → AreNumbersOf sides r n → (name : List ℕ) → name ≡ first r → ◌≡◌ {A = Disk} (record { name = name; limits = limits_by sides n; slots = n.slots }) (disk_of sides r)
-disk_by false r n a name e = λ i. record { name = e i; limits = Joint (a.outgoing_is i); slots = a.slots_is i }
-disk_by true r n a name e = λ i. record { name = e i; limits = Split (a.outgoing_is i) (a.incoming_is i); slots = a.slots_is i }
+range_of false r n a = grind arith
+range_of true r n a = grind arith

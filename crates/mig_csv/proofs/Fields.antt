@@ -1,6 +1,7 @@
 -- The fields of a row beside those that are wanted.
-use Rattle.mig_csv.proofs.Common.{Bor, IsTrue, List, Row, [], ap, arith, cases_lt, ext_get_or, false, false≢true, get_or, get_or-map, inl, inr, length, length-map, map, nat_eq, nat_list_eq_equiv}
-use Rattle.mig_csv.proofs.Common.{not, not-false, not-true, pointwise, same_text, slice_get, slice_get-get_or, subst, sym, true, unwrap_or, ℕ, ◌+◌, ◌<◌, ◌∙◌, ◌≡◌}
+use Rattle.mig_csv.proofs.Common.{Bor, IsTrue, List, Row, [], ap, arith, cases_lt, ext_get_or, false, false≢true, get_or, get_or-map, length}
+use Rattle.mig_csv.proofs.Common.{length-map, map, nat_eq, nat_list_eq_equiv, not, not-false, not-true, pointwise, same_text, slice_get}
+use Rattle.mig_csv.proofs.Common.{slice_get-get_or, subst, sym, true, unwrap_or, ℕ, ◌+◌, ◌<◌, ◌∙◌, ◌≡◌}
 
 abbrev pub field_at : Row → ℕ → List ℕ
 field_at r i = unwrap_or (slice_get r i) []
@@ -22,10 +23,7 @@ abbrev pub Agree : Row → List (Bor (List ℕ)) → ℕ → Type 0
 Agree r wanted n = (k : ℕ) → k < n → field_at r k ≡ (get_or wanted k none).now
 
 pub agree_more : (r : Row) (wanted : List (Bor (List ℕ))) (n : ℕ) → Agree r wanted n → not (pointwise nat_eq (field_at r n) (get_or wanted n none).now) ≡ false → Agree r wanted (n + 1)
-agree_more r wanted n before same k h = elim (cases_lt k n) [
-  | inl l ↦ before k l
-  | inr g ↦ subst (λ i. field_at r i ≡ (get_or wanted i none).now) (omega (arith, g, h)) (same_text (field_at r n) (get_or wanted n none).now (sym (not-false (pointwise nat_eq (field_at r n) (get_or wanted n none).now) same)))
-]
+agree_more r wanted n before same k h = grind (arith, cases_lt, same_text, not-false, pointwise)
 
 pub agree_all : (r : Row) (wanted : List (Bor (List ℕ))) → length r ≡ length wanted → Agree r wanted (length wanted) → r ≡ texts wanted
 agree_all r wanted len agree = ext_get_or [] r (texts wanted) (len ∙ sym (length-map wanted (λ (f : Bor (List ℕ)). f.now)))

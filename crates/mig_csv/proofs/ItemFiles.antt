@@ -1,7 +1,8 @@
 -- A now file that is read row by row.
-use Rattle.mig_csv.proofs.Common.{All, All-append, AllZip, Contains, Disk, IsFirstCause, IsFirstFault, IsSpotNamed, IsSpotOf, List, MAX_FILE_BYTES, MAX_ITEMS, NowFault, NowRowFault, Row, Some}
-use Rattle.mig_csv.proofs.Common.{Spot, Why, [], all_zipped_more, ap, append-nil, append_assoc, arith, at_map, first, has_sides, header_row, length, length-append, length-map, map, map-append}
-use Rattle.mig_csv.proofs.Common.{one_all, place_in, records_of, refl, rows_of, second, slice_get, some_and, spot_in_row, subst, sym, ℕ, ◌++◌, ◌+◌, ◌∙◌, ◌∷◌, ◌≡◌, ◌≤◌}
+use Rattle.mig_csv.proofs.Common.{All, All-append, AllZip, Contains, Disk, IsFirstCause, IsFirstFault, IsSpotNamed, IsSpotOf, List, MAX_FILE_BYTES}
+use Rattle.mig_csv.proofs.Common.{MAX_ITEMS, NowFault, NowRowFault, Row, Some, Spot, Why, [], all_zipped_more, ap, append-nil, append_assoc, arith}
+use Rattle.mig_csv.proofs.Common.{at_map, first, has_sides, header_row, length, length-append, length-map, map, map-append, one_all, place_in}
+use Rattle.mig_csv.proofs.Common.{records_of, refl, rows_of, some_and, spot_in_row, subst, sym, ℕ, ◌++◌, ◌+◌, ◌∙◌, ◌∷◌, ◌≡◌, ◌≤◌}
 use Rattle.mig_base.specs.declared.faults.FileKind.TheVariants as file
 use Rattle.mig_base.specs.declared.faults.Why.TheVariants as why
 use Rattle.mig_csv.proofs.DiskFiles.{OfRows, Sound, Sound-nil, Sound-push, first_fault, no_fault}
@@ -14,18 +15,13 @@ now_rows : (disks : List Disk) → OfRows (now_has disks)
 now_rows disks = record { long = λ before r h. h; head = λ before r h. h }
 
 named_place : (disks : List Disk) (r : Row) (s : Spot) → IsSpotNamed disks r s → place_in disks s ≡ spot_in_row r
-named_place disks r s h =
-    let (d, at, name) = some_and (λ (d : Disk). d.name ≡ second r) (slice_get disks s.disk.0) h.0 in
-    let f : List ℕ → ℕ → List ℕ × ℕ = λ n k. (n, k) in
-    place_at disks s d at ∙ ap (λ n. f n s.slot) name ∙ ap (f (second r)) h.1
+named_place disks r s h = grind (arith, some_and, place_at)
 
 named_places : (disks : List Disk) (rs : List Row) (ss : List Spot) → AllZip (IsSpotNamed disks) rs ss → map (place_in disks) ss ≡ map spot_in_row rs
 named_places disks [] [] z = refl
 named_places disks [] (s ∷ ss) z = absurd z
 named_places disks (r ∷ rs) [] z = absurd z
-named_places disks (r ∷ rs) (s ∷ ss) z =
-    let f : List ℕ × ℕ → List (List ℕ × ℕ) → List (List ℕ × ℕ) = λ p ps. p ∷ ps in
-    ap (λ p. f p (map (place_in disks) ss)) (named_place disks r s z.0) ∙ ap (f (spot_in_row r)) (named_places disks rs ss z.1)
+named_places disks (r ∷ rs) (s ∷ ss) z = grind (arith, named_place, named_places disks rs ss z.1)
 
 -- the records of the file are its header, rows that are done and those that are left; the items and the spots are those of the rows that are done
 pub record ItemsSoFar (bytes : List ℕ) (disks : List Disk) (left : List Row) (names : List (List ℕ)) (taken : List Spot) (items : List (List ℕ)) (spots : List Spot) : Type 0 where
@@ -41,18 +37,7 @@ pub record ItemsSoFar (bytes : List ℕ) (disks : List Disk) (left : List Row) (
   pub valid : All (IsSpotOf disks) taken
 
 pub ItemsSoFar-start : {bytes : List ℕ} {disks : List Disk} (left : List Row) → length bytes ≤ MAX_FILE_BYTES → records_of bytes ≡ header_row file.Now (has_sides bytes) ∷ left → ItemsSoFar bytes disks left [] [] [] []
-ItemsSoFar-start {bytes} {disks} left short e = record {
-  short = short;
-  done = [];
-  records = e;
-  sound = Sound-nil (now_has disks);
-  few = omega arith;
-  named = refl;
-  items_are = refl;
-  spots_are = refl;
-  spotted = tt;
-  valid = λ k d lt. absurd (omega (arith, lt));
-}
+ItemsSoFar-start {bytes} {disks} left short e = grind (arith, Sound-nil)
 
 pub ItemsSoFar-end : {bytes : List ℕ} {disks : List Disk} {left : List Row} {names : List (List ℕ)} {taken : List Spot} {items : List (List ℕ)} {spots : List Spot}
     → ItemsSoFar bytes disks left names taken items spots → left ≡ [] → (n : ℕ) (w : Why) → ¬ (NowFault disks bytes n w)

@@ -1,15 +1,15 @@
 -- The records of a text, one after the other.
-use Rattle.mig_csv.proofs.Common.{Action, Bool, Bor, ErrorKind, List, MatchBool, None, Option, Read, ReadRecord, Reader, ReadsOn, ReadsRecords, ReadsWithDefaults, Ready, Some, State, []}
+use Rattle.mig_csv.proofs.Common.{Action, Bool, Bor, ErrorKind, List, MatchBool, None, Option, Read, ReadRecord, Reader, ReadsOn, ReadsRecords, Ready}
+use Rattle.mig_csv.proofs.Common.{Some, State, [], all_from, ap, arith, cond, default_config, ends_at_end, false, false≢true, field_after}
+use Rattle.mig_csv.proofs.Common.{fields_after, has_failed, in_field, inl, is_end, is_flexible, length, reader_trim, records, records_next, refl}
+use Rattle.mig_csv.proofs.Common.{rows-end, rows-more, start_field, start_record, step, stops_reader, subst, suc, sym, took_first, true, unread_bytes}
+use Rattle.mig_csv.proofs.Common.{unread_records, zero, ℕ, ◌+◌, ◌<◌, ◌==◌, ◌||◌, ◌∙◌, ◌∷◌, ◌≡◌, ◌≤◌}
 use Rattle.csv.specs.Reading.{Reached}
-use Rattle.mig_csv.proofs.Common.{after_end, all_from, ap, arith, cond, default_config, ends_at_end, false, false≢true, field_after, fields_after, has_failed, in_field, inl, is_end, is_flexible}
-use Rattle.mig_csv.proofs.Common.{length, reader_trim, records, records_next, refl, rows-end, rows-more, start_field, start_record, step, stops_reader, subst, suc, sym}
 use Rattle.csv.specs.Machine.{next_record}
 use Rattle.csv.specs.Reading.{records_from}
-use Rattle.mig_csv.proofs.Common.{took_first, true, unread_bytes, unread_records, zero, ℕ, ◌+◌, ◌<◌, ◌==◌, ◌||◌, ◌∙◌, ◌∷◌, ◌≡◌, ◌≤◌}
 use Rattle.csv.specs.declared.reader.Trim.TheVariants as trim
 use Rattle.csv.specs.declared.parser.State.TheVariants as st
 use Rattle.csv.specs.declared.parser.Action.TheVariants as act
-use Rattle.csv.specs.declared.parser.Terminator.TheVariants as term
 
 -- if the step ends a record, then the end of the text ends none after it
 abbrev Good : State × Action → Type 0
@@ -24,13 +24,7 @@ goes : (x : State × Action) → is_end x.1 ≡ false → Good x
 goes x e h = absurd (false≢true (sym e ∙ h))
 
 good_field : (c : ℕ) → Good (in_field default_config c)
-good_field c =
-    either (c == 44) (st.StartField, act.EndField) _ (goes (st.StartField, act.EndField) refl)
-    (either ((c == 13) || (c == 10)) (after_end term.CRLF c, act.EndRecord) (st.InField, act.Copy) (after (c == 13)) (goes (st.InField, act.Copy) refl))
-  where
-    after : (b : Bool) → Good (cond b st.AfterCr st.StartRecord, act.EndRecord)
-    after true h = refl
-    after false h = refl
+good_field c = grind (arith, either, goes)
 
 good_start : (c : ℕ) → Good (start_field default_config c)
 good_start c = either (c == 34) (st.InQuoted, act.Skip) (in_field default_config c) (goes (st.InQuoted, act.Skip) refl) (good_field c)
@@ -77,21 +71,8 @@ size s xs = length xs + cond (ends_at_end s) 1 0
 
 shrinks : (s : State) (xs : List ℕ) (r : Read) → next_record default_config s [] [] xs ≡ Some r → size r.1 r.2 < size s xs
 unfolding next_record
-shrinks s [] r h = by (ends_at_end s) h
-  where
-    by : (b : Bool) → cond b (Some ([] ∷ [], st.StartRecord, [])) None ≡ Some r → size r.1 r.2 < 0 + cond b 1 0
-    by true e = let q : ([] ∷ [], st.StartRecord, []) ≡ r = cc e in subst (λ (x : Read). size x.1 x.2 < 0 + 1) q (omega arith)
-    by false e = cc e
-shrinks s (c ∷ xs) r h =
-    let l = at_byte (is_end (step default_config s c).1) _ r (length xs) _
-    (λ e. record { between = end_step s c e; rest = omega arith })
-    (λ e. next_leaves (step default_config s c).0 (fields_after (step default_config s c).1 [] []) (field_after (step default_config s c).1 c []) xs r e)
-    h in
-    rw l.between (by (ends_at_end s) l.rest)
-  where
-    by : (b : Bool) → length r.2 ≤ length xs → length r.2 + 0 < length (c ∷ xs) + cond b 1 0
-    by true e = omega arith
-    by false e = omega arith
+shrinks s [] r h = grind arith
+shrinks s (c ∷ xs) r h = grind (arith, at_byte, end_step, next_leaves)
 
 -- how many turns are allowed makes no difference, where they are enough
 turns : (m n : ℕ) (s : State) (xs : List ℕ) → size s xs < m → size s xs < n → records_from default_config m s xs ≡ records_from default_config n s xs
@@ -113,19 +94,12 @@ small false = omega arith
 -- the next record is the first of them
 pub all_from-next : (s : State) (xs : List ℕ) (r : Read) → next_record default_config s [] [] xs ≡ Some r → all_from s xs ≡ r.0 ∷ all_from r.1 r.2
 unfolding records_from
-all_from-next s xs r e =
-    let less = shrinks s xs r e in
-    let k = small (ends_at_end s) in
-    let n = small (ends_at_end r.1) in
-    let two : length xs + 2 ≡ suc (length xs + 1) = omega arith in
-    rw (two, e) (ap (λ rs. r.0 ∷ rs) (turns (length xs + 1) (length r.2 + 2) r.1 r.2 (omega arith) (omega arith)))
+all_from-next s xs r e = grind (arith, shrinks, small, turns)
 
 -- and where there is none, there are none
 pub all_from-none : (s : State) (xs : List ℕ) → next_record default_config s [] [] xs ≡ None → all_from s xs ≡ []
 unfolding records_from
-all_from-none s xs e =
-    let two : length xs + 2 ≡ suc (length xs + 1) = omega arith in
-    rw (two, e) refl
+all_from-none s xs e = grind arith
 
 -- from the start they are the records of the text
 pub all_from-start : (xs : List ℕ) → all_from st.StartRecord xs ≡ records default_config xs
@@ -176,11 +150,4 @@ read_one a b found fields inv same reads first failed flexible = by (has_failed 
 -- a read that failed leaves a reader that has failed, or that reads on
 pub read_none : (a b : Reader (Bor (List ℕ))) (k : ErrorKind) → ReadsRecords a → has_failed b ≡ stops_reader k → (stops_reader k ≡ false → ReadsOn a b)
     → (has_failed a ≡ true → ⊥) → ReadsRecords b
-read_none a b k inv fails goes ok e = by (has_failed a) refl
-  where
-    by : (f : Bool) → has_failed a ≡ f → ReadsWithDefaults b
-    by true h = absurd (ok h)
-    by false h =
-        let i = inv h in
-        let on = goes (sym fails ∙ e) in
-        record { config = on.0 ∙ i.config; trim = on.1 ∙ i.trim; ready = (on.4 i.ready).0; flexible = on.2 ∙ i.flexible }
+read_none a b k inv fails goes ok e = grind arith

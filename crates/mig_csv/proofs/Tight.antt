@@ -1,6 +1,7 @@
 -- Reading the three files without asking for room.
-use Rattle.mig_csv.proofs.Common.{AcceptedTight, Disk, DiskId, DisksFault, Fault, FaultButRoom, FileKind, InputError, InputLists, IsInputError, IsRefusalOf, IsTightRefusal, List, NextFault, ThreeFiles}
-use Rattle.mig_csv.proofs.Common.{NowFault, Option, Precedes, RefusedAs, RefusedTightAs, RefusesMissing, Why, arith, clean_of, inl, inr, is_fault, refl, stage_of, ℕ, ⊤, ◌<◌}
+use Rattle.mig_csv.proofs.Common.{AcceptedTight, Disk, DiskId, DisksFault, Fault, FaultButRoom, FileKind, InputError, InputLists, IsInputError}
+use Rattle.mig_csv.proofs.Common.{IsRefusalOf, IsTightRefusal, List, NextFault, ThreeFiles, NowFault, Option, RefusedAs, RefusedTightAs}
+use Rattle.mig_csv.proofs.Common.{RefusesMissing, Why, arith, clean_of, is_fault, refl, stage_of, ℕ, ⊤, ◌<◌}
 use Rattle.mig_base.specs.declared.faults.FileKind.TheVariants as file
 use Rattle.mig_base.specs.declared.faults.Why.TheVariants as why
 use Rattle.mig_csv.specs.declared.errors.InputError.TheVariants as error
@@ -52,16 +53,7 @@ before_room fs file.Now n w h = omega arith
 before_room fs file.Next n w h = omega arith
 
 pub refused_with_room : (fs : ThreeFiles) (f : FileKind) (n : ℕ) (w : Why) → RefusedTightAs fs f n w → RefusedAs fs f n w
-refused_with_room fs f n w h = record { fault = is_fault fs f n w h.fault; first = first }
-  where
-    first : (g : FileKind) (m : ℕ) (v : Why) → Precedes g m v f n w → ¬ (Fault fs g m v)
-    first g m (why.NoRoom a b c) before x =
-        let early = before_room fs f n w h.fault in
-        elim before [
-          | inl lt ↦ absurd (omega (arith, lt))
-          | inr same ↦ let at = same.0 in absurd (omega (arith, at))
-        ]
-    first g m v before x = h.first g m v before x
+refused_with_room fs f n w h = grind (arith, is_fault, before_room)
 
 -- The same of refusals
 

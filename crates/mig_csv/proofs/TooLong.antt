@@ -1,5 +1,6 @@
 -- Where a file is too long, that is the first thing that is wrong with it.
-use Rattle.mig_csv.proofs.Common.{Fault, FileKind, List, ListingFault, Precedes, Why, ap, arith, cases_lt, inl, inr, rank_of, refl, stage_of, subst, suc, sym, zero, ℕ, ◌<◌, ◌∙◌, ◌≡◌, ◌≤◌}
+use Rattle.mig_csv.proofs.Common.{Fault, FileKind, List, ListingFault, Precedes, Why, arith, cases_lt, inl, inr, rank_of, refl, stage_of, ℕ, ◌<◌, ◌≡◌}
+use Rattle.mig_csv.proofs.Common.{◌≤◌}
 use Rattle.mig_base.specs.Refusals.{IsFirstOf}
 use Rattle.mig_base.specs.declared.faults.FileKind.TheVariants.{Disks, Next, Now}
 use Rattle.mig_base.specs.declared.faults.Why.TheVariants as why
@@ -48,41 +49,13 @@ module _ (a b : FileKind → ℕ → Why → Type 0) (g : FileKind)
   none_before k m v (inr (same, inr (at, lt))) = absurd (omega (arith, lt))
 
   long_refused : IsFirstOf a g 0 why.TooLong → IsFirstOf b g 0 why.TooLong
-  long_refused h = record {
-    fault = long_b;
-    first = λ k m v p q. h.first k m v p (back k m v (none_before k m v p) q);
-  }
+  long_refused h = grind (arith, none_before)
 
   is_long : (f : FileKind) (r : ℕ) (w : Why) → stage_of g why.TooLong ≤ stage_of f w → IsFirstOf a f r w → (f ≡ g) × (r ≡ 0) × (w ≡ why.TooLong)
-  is_long f r w le h =
-      let not_before : Precedes g 0 why.TooLong f r w → ⊥ = λ p. h.first g 0 why.TooLong p long_a in
-      let stage : stage_of g why.TooLong ≡ stage_of f w = at_most (stage_of g why.TooLong) (stage_of f w) le (λ lt. not_before (inl lt)) in
-      let row : r ≡ 0 = none r (λ lt. not_before (inr (stage, inl lt))) in
-      let rank : rank_of w ≡ 0 = none (rank_of w) (λ lt. not_before (inr (stage, inr (sym row, lt)))) in
-      let cause : w ≡ why.TooLong = rank_zero w rank in
-      (same_file f g (sym (stage ∙ ap (stage_of f) cause)), row, cause)
-    where
-      at_most : (m n : ℕ) → m ≤ n → (m < n → ⊥) → m ≡ n
-      at_most m n le not = elim (cases_lt m n) [
-        | inl lt ↦ absurd (not lt)
-        | inr ge ↦ omega (arith, le, ge)
-      ]
-
-      none : (n : ℕ) → (0 < n → ⊥) → n ≡ 0
-      none zero not = refl
-      none (suc n) not = absurd (not (omega arith))
+  is_long f r w le h = grind (arith, rank_zero, same_file, cases_lt)
 
   pub carried_first : (f : FileKind) (r : ℕ) (w : Why) → IsFirstOf a f r w → IsFirstOf b f r w
-  carried_first f r w h = elim (cases_lt (stage_of f w) (stage_of g why.TooLong)) [
-    | inl lt ↦ record {
-      fault = to f r w lt h.fault;
-      first = λ k m v p q. h.first k m v p (back k m v (omega (arith, lt, no_later k f m r v w p)) q);
-    }
-    | inr ge ↦
-        let is = is_long f r w ge h in
-        subst (λ k. IsFirstOf b k r w) (sym is.0) (subst (λ m. IsFirstOf b g m w) (sym is.1) (subst (λ v. IsFirstOf b g 0 v) (sym is.2)
-        (long_refused (subst (λ v. IsFirstOf a g 0 v) is.2 (subst (λ m. IsFirstOf a g m w) is.1 (subst (λ k. IsFirstOf a k r w) is.0 h))))))
-  ]
+  carried_first f r w h = grind (arith, cases_lt, no_later, is_long, long_refused)
 
 -- a fault in the now file comes after those in the disks file
 pub now_stage : (w : Why) → 1 ≤ stage_of Now w

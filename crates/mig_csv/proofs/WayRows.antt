@@ -1,9 +1,12 @@
 -- The rows of a next file.
-use Rattle.mig_csv.proofs.Common.{All, All-append, Any, AreDifferent, AreNextOf, AreSeen, Contains, Disk, DiskId, IsFirstCause, IsFirstFault, IsName, IsNextOf, IsSomeAnd, List, MAX_FILE_BYTES}
-use Rattle.mig_csv.proofs.Common.{MAX_ITEMS, MatchOption, NextFault, NextRowFault, None, Option, Row, Some, Why, [], ap, append-nil, append_assoc, arith, cases_eq, first, get_or}
-use Rattle.mig_csv.proofs.Common.{get_or_from_slice_get, has_sides, header_row, inl, inr, length, length-append, length-map, length-set, map, map-append, one_all, one_place, rank_of, records_of}
-use Rattle.mig_csv.proofs.Common.{refl, replicate, rows_of, second, set, slice_get, slice_get-set_other, slice_get-set_same, slice_get_within, some_and, subst, suc, sym, zero, ℕ, ◌++◌, ◌+◌, ◌<◌}
-use Rattle.mig_csv.proofs.Common.{◌∙◌, ◌∷◌, ◌≡◌, ◌≢◌, ◌≤◌, ◌⊎◌}
+use Rattle.mig_csv.proofs.Common.{All, All-append, Any, AreDifferent, AreNextOf, AreSeen, Contains, Disk, DiskId, IsFirstCause, IsFirstFault, IsName}
+use Rattle.mig_csv.proofs.Common.{IsNextOf, IsSomeAnd, List, MAX_FILE_BYTES, MAX_ITEMS, MatchOption, NextFault, NextRowFault, None, Option, Row, Some}
+use Rattle.mig_csv.proofs.Common.{Why, [], ap, append-nil, append_assoc, arith, cases_eq, first, get_or, has_sides, header_row, inl, inr, length}
+use Rattle.mig_csv.proofs.Common.{length-append, length-map, length-set, map, map-append, one_all, one_place, rank_of, records_of, refl, replicate}
+use Rattle.mig_csv.proofs.Common.{rows_of, second, set, slice_get, slice_get-set_other, slice_get-set_same, slice_get_within, some_and, subst, suc}
+use Rattle.mig_csv.proofs.Common.{sym, zero, ℕ, ◌++◌, ◌+◌, ◌<◌, ◌∙◌, ◌∷◌, ◌≡◌, ◌≢◌, ◌≤◌, ◌⊎◌, at_map, slice_get-get_or}
+use Rattle.mig_base.proofs.Common.{length-replicate}
+use Rattle.std.proofs.lemmas.List.Elements.{Contains-append_left, Contains-push, Contains-push_cases}
 use Rattle.mig_base.specs.declared.faults.FileKind.TheVariants as file
 use Rattle.mig_base.specs.declared.faults.Why.TheVariants as why
 use Rattle.mig_csv.proofs.DiskFiles.{OfRows, Sound, Sound-nil, Sound-push, first_fault, no_fault}
@@ -27,44 +30,12 @@ abbrev pub unknown : Option DiskId
 unknown = None
 
 none_at : (n k : ℕ) (v : DiskId) → slice_get (replicate n unknown) k ≡ Some (Some v) → ⊥
-none_at n k v e = by (get_or (replicate n unknown) k unknown) (get_or_from_slice_get (replicate n unknown) k (Some v) unknown e) (all_unknown n k)
-  where
-    all_unknown : (n k : ℕ) → get_or (replicate n unknown) k unknown ≡ unknown
-    all_unknown zero k = refl
-    all_unknown (suc n) zero = refl
-    all_unknown (suc n) (suc k) = all_unknown n k
-
-    by : (o : Option DiskId) → o ≡ Some v → o ≡ unknown → ⊥
-    by None a b = cc
-    by (Some w) a b = cc
-
-len_unknown : (n : ℕ) → length (replicate n unknown) ≡ n
-len_unknown zero = refl
-len_unknown (suc n) = ap suc (len_unknown n)
+none_at zero k v e = cc e
+none_at (suc n) zero v e = cc e
+none_at (suc n) (suc k) v e = none_at n k v e
 
 pub AreNextOf-start : (disks : List Disk) (items : List (List ℕ)) → AreNextOf disks items [] (replicate (length items) unknown)
-AreNextOf-start disks items = record {
-  len = len_unknown (length items);
-  named = λ k d lt. absurd (omega (arith, lt));
-  listed = λ k n v at here. absurd (none_at (length items) k v here);
-  missing = λ k n at here c. absurd (omega (arith, c.1));
-  on_disks = λ k v at. absurd (none_at (length items) k v at);
-}
-
-contains_left : {X : Type 0} (xs ys : List X) (x : X) → Contains xs x → Contains (xs ++ ys) x
-contains_left [] ys x c = absurd (omega (arith, c.1))
-contains_left (z ∷ xs) ys x (zero, lt, is) = (0, omega arith, is)
-contains_left (z ∷ xs) ys x (suc k, lt, is) = let r = contains_left xs ys x (k, omega arith, is) in (suc r.0, let l = r.1 in omega arith, r.2)
-
-contains_last : {X : Type 0} (xs : List X) (x : X) → Contains (xs ++ x ∷ []) x
-contains_last [] x = (0, omega arith, refl)
-contains_last (z ∷ xs) x = let r = contains_last xs x in (suc r.0, let l = r.1 in omega arith, r.2)
-
-contains_cases : {X : Type 0} (xs : List X) (y x : X) → Contains (xs ++ y ∷ []) x → Contains xs x ⊎ (y ≡ x)
-contains_cases [] y x (zero, lt, is) = inr is
-contains_cases [] y x (suc k, lt, is) = absurd (omega (arith, lt))
-contains_cases (z ∷ xs) y x (zero, lt, is) = inl (0, omega arith, is)
-contains_cases (z ∷ xs) y x (suc k, lt, is) = elim (contains_cases xs y x (k, omega arith, is)) [ inl c ↦ inl (suc c.0, let l = c.1 in omega arith, c.2) | inr e ↦ inr e ]
+AreNextOf-start disks items = grind (arith, length-replicate, none_at)
 
 -- one more row
 pub AreNextOf-push : (disks : List Disk) (items : List (List ℕ)) (done : List Row) (next : List (Option DiskId)) (r : Row) (k : ℕ) (v : DiskId) → AreNextOf disks items done next → AreDifferent items
@@ -80,14 +51,21 @@ AreNextOf-push disks items done next r k v a ne at is new = record {
     within : k < length next
     within = omega (arith, slice_get_within items k (first r) at, a.len)
 
+    -- what is at a place after the write
+    written : (j : ℕ) (o : Option DiskId) → slice_get (set next k (Some v)) j ≡ Some o
+        → ((j ≡ k) × (o ≡ Some v)) ⊎ ((j ≢ k) × (slice_get next j ≡ Some o))
+    written j o e = elim (cases_eq j k) [
+      | inl same ↦ inl (same, cc (e, same, slice_get-set_same next k (Some v) within))
+      | inr other ↦ inr (other, sym (slice_get-set_other next k j (Some v) other) ∙ e)
+    ]
+
     on_disks : (j : ℕ) (w : DiskId) → slice_get (set next k (Some v)) j ≡ Some (Some w) → w.0 < length disks
-    on_disks j w e = elim (cases_eq j k) [
-      | inl same ↦
+    on_disks j w e = elim (written j (Some w) e) [
+      | inl here ↦
           let d = some_and (λ (x : Disk). x.name ≡ second r) (slice_get disks v.0) is in
-          let z : Some (Some v) ≡ Some (Some w) = sym (slice_get-set_same next k (Some v) within) ∙ ap (slice_get (set next k (Some v))) (sym same) ∙ e in
-          let one : v ≡ w = cc z in
-          subst (λ (x : DiskId). x.0 < length disks) one (slice_get_within disks v.0 d.0 d.1)
-      | inr other ↦ a.on_disks j w (sym (slice_get-set_other next k j (Some v) other) ∙ e)
+          let one : w ≡ v = cc here.1 in
+          rw one (slice_get_within disks v.0 d.0 d.1)
+      | inr other ↦ a.on_disks j w other.1
     ]
 
     rows_of_done : map first (done ++ r ∷ []) ≡ map first done ++ first r ∷ []
@@ -95,31 +73,24 @@ AreNextOf-push disks items done next r k v a ne at is new = record {
 
     old : All (IsNextOf disks items (set next k (Some v))) done
     old j d lt =
-        let q = get_or done j d in
         let h = a.named j d lt in
-        let there : Contains (map first done) (first q) = let m : slice_get (map first done) j ≡ Some (first q) = mapped done j d lt in Contains-at (map first done) j (first q) m in
-        let apart : h.0 ≢ k = λ e. new (subst (λ n. Contains (map first done) n) (let z : Some (first q) ≡ Some (first r) = sym h.2 ∙ ap (slice_get items) e ∙ at in cc z) there) in
+        let there = Contains-at (map first done) j (first (get_or done j d)) (at_map first done j (get_or done j d) (slice_get-get_or done j d lt)) in
+        let apart : h.0 ≢ k = λ e. new (let one : first r ≡ first (get_or done j d) = cc (h.2, at, e) in rw one there) in
         (h.0, h.1, h.2, slice_get-set_other next k h.0 (Some v) apart ∙ h.3, h.4)
-      where
-        mapped : (rs : List Row) (j : ℕ) (d : Row) → j < length rs → slice_get (map first rs) j ≡ Some (first (get_or rs j d))
-        mapped [] j d lt = absurd (omega (arith, lt))
-        mapped (x ∷ rs) zero d lt = refl
-        mapped (x ∷ rs) (suc j) d lt = mapped rs j d (omega arith)
 
-    listed : (j : ℕ) (n : List ℕ) (w : DiskId) → slice_get items j ≡ Some n → slice_get (set next k (Some v)) j ≡ Some (Some w) → Contains (map first (done ++ r ∷ [])) n
-    listed j n w here e = rw rows_of_done (elim (cases_eq j k) [
-      | inl same ↦ subst (λ m. Contains (map first done ++ first r ∷ []) m) (let z : Some (first r) ≡ Some n = sym at ∙ ap (slice_get items) (sym same) ∙ here in cc z) (contains_last (map first done) (first r))
-      | inr other ↦ contains_left (map first done) (first r ∷ []) n (a.listed j n w here (sym (slice_get-set_other next k j (Some v) other) ∙ e))
+    listed : (j : ℕ) (n : List ℕ) (w : DiskId) → slice_get items j ≡ Some n → slice_get (set next k (Some v)) j ≡ Some (Some w)
+        → Contains (map first (done ++ r ∷ [])) n
+    listed j n w item e = rw rows_of_done (elim (written j (Some w) e) [
+      | inl here ↦ (let one : n ≡ first r = cc (item, at, here.0) in rw one (Contains-push (map first done) (first r)))
+      | inr other ↦ Contains-append_left (map first done) (first r ∷ []) n (a.listed j n w item other.1)
     ])
 
     missing : (j : ℕ) (n : List ℕ) → slice_get items j ≡ Some n → slice_get (set next k (Some v)) j ≡ Some None → ¬ (Contains (map first (done ++ r ∷ [])) n)
-    missing j n here e c = elim (cases_eq j k) [
-      | inl same ↦
-          let z : ◌≡◌ {A = Option (Option DiskId)} (Some (Some v)) (Some None) = sym (slice_get-set_same next k (Some v) within) ∙ ap (slice_get (set next k (Some v))) (sym same) ∙ e in
-          cc z
-      | inr other ↦ elim (contains_cases (map first done) (first r) n (rw rows_of_done at c)) [
-        | inl before ↦ a.missing j n here (sym (slice_get-set_other next k j (Some v) other) ∙ e) before
-        | inr is_r ↦ other (one_place items j k n ne here (at ∙ ap (λ m. Some m) is_r))
+    missing j n item e c = elim (written j None e) [
+      | inl here ↦ cc here.1
+      | inr other ↦ elim (Contains-push_cases (map first done) (first r) n (rw rows_of_done at c)) [
+        | inl before ↦ a.missing j n item other.1 before
+        | inr is_r ↦ other.0 (one_place items j k n ne item (at ∙ ap Some is_r))
       ]
     ]
 
@@ -207,9 +178,3 @@ pub not_seen : (items : List (List ℕ)) (next : List (Option DiskId)) (rows : �
     → MatchOption o (¬ (Contains items n)) (λ k. slice_get items k ≡ Some n) → ((k : ℕ) → o ≡ Some k → slice_get next k ≡ Some None) → ¬ (Contains names n)
 not_seen items next rows names n None a found free = λ c. found (a.there n c)
 not_seen items next rows names n (Some k) a found free = a.missing k n found (free k refl)
-
--- an item that has a next disk is named by a row that is done
-pub seen_before : (items : List (List ℕ)) (next : List (Option DiskId)) (rows : ℕ) (names : List (List ℕ)) (n : List ℕ) (o : Option ℕ) → AreSeen items next rows names
-    → MatchOption o (¬ (Contains items n)) (λ k. slice_get items k ≡ Some n) → (k : ℕ) × (v : DiskId) × (o ≡ Some k) × (slice_get next k ≡ Some (Some v)) → Contains names n
-seen_before items next rows names n None a found has = absurd (let e = has.2 in cc e)
-seen_before items next rows names n (Some k) a found has = a.listed k n has.1 found (subst (λ j. slice_get next j ≡ Some (Some has.1)) (let e = has.2 in cc e) has.3)

@@ -1,9 +1,10 @@
 -- What the steps of the reading say of the three files.
-use Rattle.mig_csv.proofs.Common.{Accepted, Accepted-clean, All, AllZip, AreListed, AreListed-unique, AreNextOf, Disk, DiskId, DisksFault, Fault, FileKind, InputError, IsClean, ThreeFiles}
-use Rattle.mig_csv.proofs.Common.{InputLists, IsInputError, IsNextNamed, IsNotListed, IsRefusalOf, IsRoomy, IsSpotNamed, LacksRoom, List, NextFault, None, NowFault, Option, Precedes, PrecedesInFile}
-use Rattle.mig_csv.proofs.Common.{RefusesMissing, RefusesRoom, Row, Some, Why, [], arith, disks_of, first, get_or, get_or_from_slice_get, incoming, inl, inr, length, length-map, map, no_disk}
-use Rattle.mig_csv.proofs.Common.{option_map, present, refl, refused_in_file, rows_of, slice_get, slice_get-get_or, slice_get-map, slice_get_within, stage_free, stage_of, subst, sym, ℕ, ◌+◌, ◌<◌}
-use Rattle.mig_csv.proofs.Common.{◌∙◌, ◌≡◌, ◌≤◌}
+use Rattle.mig_csv.proofs.Common.{Accepted, Accepted-clean, All, AllZip, AreListed, AreListed-unique, AreNextOf, Disk, DiskId, DisksFault, Fault}
+use Rattle.mig_csv.proofs.Common.{FileKind, InputError, IsClean, ThreeFiles, InputLists, IsInputError, IsNextNamed, IsNotListed, IsRefusalOf, IsRoomy}
+use Rattle.mig_csv.proofs.Common.{IsSpotNamed, LacksRoom, List, NextFault, None, NowFault, Option, Precedes, PrecedesInFile, RefusesMissing}
+use Rattle.mig_csv.proofs.Common.{RefusesRoom, Some, Why, [], arith, disks_of, first, get_or, get_or_from_slice_get, incoming, inl, inr, length}
+use Rattle.mig_csv.proofs.Common.{length-map, map, no_disk, present, refl, refused_in_file, rows_of, slice_get, slice_get-get_or, slice_get-map}
+use Rattle.mig_csv.proofs.Common.{slice_get_within, stage_free, stage_of, subst, ℕ, ◌+◌, ◌<◌, ◌≡◌, ◌≤◌}
 use Rattle.mig_base.specs.declared.faults.FileKind.TheVariants as file
 use Rattle.mig_base.specs.declared.faults.Why.TheVariants as why
 use Rattle.mig_csv.specs.declared.errors.InputError.TheVariants as error
@@ -37,11 +38,7 @@ pub clean_next : (fs : ThreeFiles) (disks : List Disk) (items : List (List ℕ))
 clean_next fs disks items at those s = rw (at, those) at s
 
 some_of : (ds : List DiskId) (k : ℕ) (v : DiskId) → slice_get (map (λ (d : DiskId). Some d) ds) k ≡ Some (Some v) → slice_get ds k ≡ Some v
-some_of ds k v e = by (slice_get ds k) (sym (slice_get-map (λ (d : DiskId). Some d) ds k) ∙ e)
-  where
-    by : (o : Option DiskId) → option_map (λ (d : DiskId). Some d) o ≡ Some (Some v) → o ≡ Some v
-    by None h = cc h
-    by (Some d) h = cc h
+some_of ds k v e = grind (arith, slice_get-map)
 
 a_disk : DiskId
 a_disk = record { 0 = 0 }
@@ -54,13 +51,6 @@ none_missing fs disks items next ds those a e n h =
     let lt : h.place < length ds = let w = slice_get_within items h.place h.item at in let len = rw (e, length-map) at a.len in omega arith in
     let here : slice_get next h.place ≡ Some (Some (get_or ds h.place a_disk)) = rw (e, slice_get-map, slice_get-get_or ds h.place a_disk lt) refl in
     h.missing (a.listed h.place h.item (get_or ds h.place a_disk) at here)
-
--- the next disks are disks of the input
-pub next_within : {disks : List Disk} {items : List (List ℕ)} {rows : List Row} (next : List (Option DiskId)) (ds : List DiskId) → AreNextOf disks items rows next → next ≡ map (λ (d : DiskId). Some d) ds
-    → All (λ (d : DiskId). d.0 < length disks) ds
-next_within {disks} next ds a e k d lt =
-    let here : slice_get next k ≡ Some (Some (get_or ds k d)) = rw (e, slice_get-map, slice_get-get_or ds k d lt) refl in
-    a.on_disks k (get_or ds k d) here
 
 -- the lists that were made are those that the rows list
 pub listed_of : (fs : ThreeFiles) (i : InputLists) (next : List (Option DiskId)) → i.disks ≡ disks_of fs.disks → i.items ≡ map first (rows_of fs.now)
@@ -169,14 +159,7 @@ refusal_of_room fs i (error.Refused f row w) r h = absurd h
 
 -- a roomy input lacks room nowhere
 none_lacks : (fs : ThreeFiles) (i : InputLists) → AreRead fs i → IsRoomy i → (n : ℕ) (name : List ℕ) (needs slots : ℕ) → ¬ (LacksRoom fs n name needs slots)
-none_lacks fs i r roomy m name needs slots z =
-    let same = AreListed-unique fs z.lists i r.disks r.now r.next r.missing z.listed r.listed in
-    let at : slice_get i.disks z.place ≡ Some z.disk = subst (λ (j : InputLists). slice_get j.disks z.place ≡ Some z.disk) same z.at in
-    let sum : needs ≡ present i z.place + incoming i z.place = subst (λ (j : InputLists). needs ≡ present j z.place + incoming j z.place) same z.sum in
-    let room = subst (λ (d : Disk). present i z.place + incoming i z.place ≤ d.slots) (get_or_from_slice_get i.disks z.place z.disk no_disk at) (roomy z.place (slice_get_within i.disks z.place z.disk at)) in
-    let short = z.short in
-    let kept = z.kept in
-    absurd (omega (arith, room))
+none_lacks fs i r roomy m name needs slots z = grind (arith, AreListed-unique, get_or_from_slice_get, no_disk, slice_get_within)
 
 pub Accepted-roomy : (fs : ThreeFiles) (i : InputLists) → AreRead fs i → IsRoomy i → Accepted fs i
 Accepted-roomy fs i r roomy = Accepted-clean fs i r.disks r.now r.next r.missing (none_lacks fs i r roomy) r.listed

@@ -1,5 +1,5 @@
 -- The names that the proofs of this crate cite, passed on from one place. Declares nothing.
-pub use Rattle.mig_base.proofs.Copies.{count_by-le-one, value_within_quotient}
+pub use Rattle.mig_base.proofs.Copies.{value_within_quotient}
 pub use Rattle.mig_base.proofs.Counting.{count_by-filter, count_by-filter-le, count_same, div_ceil-le, none_pass, one, sum_by-le_each, sum_by-map, sum_by-same_each}
 pub use Rattle.mig_base.proofs.Counting.{sum_by-swap}
 pub use Rattle.mig_base.proofs.Elements.{in_range, range_more}
@@ -30,8 +30,8 @@ pub use Rattle.std.proofs.Math.Nat.{mul-le-mul_left, mul-le-mul_right}
 pub use Rattle.std.proofs.lemmas.Bool.{cases_eq, cases_lt, false≢true, ne_eqb}
 pub use Rattle.std.proofs.lemmas.Bool.Decides.{nat_tests}
 pub use Rattle.std.proofs.lemmas.Grind.{div_ceil_times}
-pub use Rattle.std.proofs.lemmas.List.{get_or-replicate, get_or-set_other, get_or-set_same, get_or-take, get_or_append_left, get_or_push, length-map, length-replicate, length-take}
-pub use Rattle.std.proofs.lemmas.List.{length-take-le, map-append, take-map, take_more}
+pub use Rattle.std.proofs.lemmas.List.{get_or-set_other, get_or-set_same, get_or-take, get_or_append_left, get_or_push, length-map, length-replicate}
+pub use Rattle.std.proofs.lemmas.List.{length-take, length-take-le, map-append, take-map, take_more}
 pub use Rattle.std.proofs.lemmas.List.Elements.{All-append, All-filter, All-head, All-map, All-tail, filter-append, filter_passes}
 pub use Rattle.std.proofs.lemmas.List.FromFn.{get_or-range_with_len, length-range_with_len}
 pub use Rattle.std.proofs.lemmas.List.Sums.{count_by-le-length, count_by_more_no, count_by_more_yes, get_or-le-sum_by, length-filter, sum_by-append, sum_by-cons, sum_by-take-le, sum_by_more}

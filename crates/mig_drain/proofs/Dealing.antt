@@ -1,14 +1,16 @@
 -- Items that are dealt to the other disks empty their disk, in as many rounds as are enough.
 use Rattle.mig_drain.proofs.Common.{All, All-append, All-from_get_or, All-head, All-map, All-replicate, All-tail, AreDealt, AreEnough, Bool, DiskId, Empties, Incoming, IsInput, IsTwoSided, List}
-use Rattle.mig_drain.proofs.Common.{InputLists, Outgoing, PlansHave, Spot, TwoSides, [], ap, arith, can_take, cases_eq, count_by, count_by-filter, count_by-filter-le, count_by-le-one}
+use Rattle.mig_drain.proofs.Common.{InputLists, Outgoing, PlansHave, Spot, TwoSides, [], ap, arith, can_take, cases_eq, count_by, count_by-filter}
+use Rattle.mig_drain.proofs.Common.{count_by-filter-le}
 use Rattle.mig_drain.proofs.Common.{count_by_more_no, count_by_more_yes, differ, disk_at, div_ceil_times, eq-eqb, eqb, eqb-true, false, false≢true, filter_passes, flat_map, get_or}
 use Rattle.mig_drain.proofs.Common.{get_or-range_with_len, get_or-take, incoming, incoming_limit, inl, inr, is_other, is_relocated, length, length-append, length-range_with_len, length-replicate}
 use Rattle.mig_drain.proofs.Common.{limits_at, moves, moves_there, mul-le-mul_right, ne_eqb, no_spot, none_pass, not, one, others, others_can_take, outgoing_limit, places, present, quotient}
 use Rattle.mig_drain.proofs.Common.{range_more, range_with_len, rank, refl, replicate, side_load, side_positive, source, spot_disk, subst, suc, sum_by, sum_by-append, sum_by-cons, sum_by-le_each}
-use Rattle.mig_drain.proofs.Common.{sum_by-take-le, sum_by_more, sum_by_more_le, sum_by_push, sym, take, target, transfer_graph, transfer, transfers, true, with_next, zero, ℕ, ◌&&◌, ◌*◌, ◌++◌, ◌+◌, ◌<◌, ◌∙◌}
-use Rattle.mig_drain.proofs.Common.{◌∷◌, ◌≡◌, ◌≢◌, ◌≤◌, ◌⊎◌}
+use Rattle.mig_drain.proofs.Common.{sum_by-take-le, sum_by_more, sum_by_more_le, sum_by_push, sym, take, target, transfer_graph, transfer, transfers}
+use Rattle.mig_drain.proofs.Common.{true, with_next, zero, ℕ, ◌&&◌, ◌*◌, ◌++◌, ◌+◌, ◌<◌, ◌∙◌, nat_tests, ◌∷◌, ◌≡◌, ◌≢◌, ◌≤◌, ◌⊎◌}
 use Rattle.mig_drain.proofs.Emptying.{enough, other_below, other_not, present_counted}
 use Rattle.mig_drain.proofs.SideCounts.{leaving_counted, quotient_most, reaching_counted, rounds_few}
+use Rattle.mig_base.proofs.Scheduled.{once_in_range}
 use Rattle.mig_base.proofs.SlotCounts.{present_fits}
 
 -- Numbers in a row, each so many times
@@ -49,13 +51,6 @@ count_times f (w ∷ ws) u =
     join : (bc b c m t o n all : ℕ) → bc ≡ b + c → b ≡ m → m ≤ o * t → c ≤ n * t → all ≡ o + n → bc ≤ all * t
     join bc b c m t o n all cut rep less rest head = omega (arith, cut, rep, less, rest, ap (λ k. k * t) head)
 
-range_once : (n u : ℕ) → count_by (is_disk u) (range_with_len 0 n) ≤ 1
-range_once n u = count_by-le-one (is_disk u) (range_with_len 0 n) (λ i j d l m h g.
-    let len = length-range_with_len 0 n in
-    let i_at = get_or-range_with_len 0 n i d (omega (arith, l, m, len)) in
-    let j_at = get_or-range_with_len 0 n j d (omega (arith, m, len)) in
-    absurd (omega (arith, l, i_at, j_at, eqb-true (get_or (range_with_len 0 n) i d) u h, eqb-true (get_or (range_with_len 0 n) j d) u g)))
-
 -- The places
 
 pub length-places : (input : InputLists) (v r : ℕ) → length (places input v r) ≡ others_can_take input v r
@@ -64,7 +59,9 @@ length-places input v r = length_times (can_take input r) (others input v)
 -- each disk is among them as often as it can take an item, at most
 few_places : (input : InputLists) (v r u : ℕ) → count_by (is_disk u) (places input v r) ≤ can_take input r u
 few_places input v r u =
-    let once : count_by (is_disk u) (others input v) ≤ 1 = omega (arith, count_by-filter-le (is_disk u) (is_other v) (range_with_len 0 (length input.disks)), range_once (length input.disks) u) in
+    let range = range_with_len 0 (length input.disks) in
+    let in_range : count_by (is_disk u) range ≤ 1 = once_in_range 0 (length input.disks) u in
+    let once : count_by (is_disk u) (others input v) ≤ 1 = omega (arith, count_by-filter-le (is_disk u) (is_other v) range, in_range) in
     below (count_by (is_disk u) (others input v)) (can_take input r u) (count_by (is_disk u) (places input v r)) once (count_times (can_take input r) (others input v) u)
   where
     below : (c t b : ℕ) → c ≤ 1 → b ≤ c * t → b ≤ t
@@ -148,9 +145,7 @@ module _ (input : InputLists) (is : IsInput input) (v : ℕ) (there : v < length
   ]
     where
       less : (a b : Bool) → one (a && b) ≤ one (true && b)
-      less true b = omega arith
-      less false true = omega arith
-      less false false = omega arith
+      less a b = grind (arith, nat_tests)
 
   incoming_few : (u : ℕ) → incoming (with_next input next) u ≤ can_take input r u
   incoming_few u =

@@ -1,6 +1,7 @@
 -- Next disks that empty a disk need as many rounds as are enough for its items.
 use Rattle.mig_drain.proofs.Common.{All, All-filter, AreEnough, AreFewest, Bool, Contains, DiskId, Empties, Incoming, InputLists, IsInput, List, NeedsToEmpty, Outgoing, Spot, [], ap, arith, can_take}
-use Rattle.mig_drain.proofs.Common.{cond, count_by, count_by-filter, count_same, differ, disk_at, div_ceil-le, eq-eqb, eqb, false, false≢true, filter, filter_passes, get_or, get_or-le-sum_by}
+use Rattle.mig_drain.proofs.Common.{cond, count_by, count_by-filter, count_same, differ, disk_at, div_ceil-le}
+use Rattle.mig_drain.proofs.Common.{eq-eqb, eqb, false, filter, filter_passes, get_or, get_or-le-sum_by}
 use Rattle.mig_drain.proofs.Common.{get_or-range_with_len, in_range, is_other, is_relocated, length, length-range_with_len, limits_at, moves, moves_there, nat_tests, ne_eqb, no_spot, not, one}
 use Rattle.mig_drain.proofs.Common.{others, outgoing_limit, present, quotient, range_with_len, refl, side_positive, source, subst, suc, sum_by, sum_by-le_each, sum_by-swap, sym, target}
 use Rattle.mig_drain.proofs.Common.{transfer_graph, true, with_next, zero, ℕ, ◌&&◌, ◌<◌, ◌∙◌, ◌∷◌, ◌≡◌, ◌≢◌, ◌≤◌}
@@ -24,22 +25,17 @@ is_input input next is len there = record {
   spots_apart = is.spots_apart;
 }
 
+rest : {X : Type 0} (b : Bool) (x y : X) (xs : List X) → Contains xs y → Contains (cond b (x ∷ xs) xs) y
+rest true x y xs (k, l, is) = (suc k, omega (arith, l), is)
+rest false x y xs has = has
+
 -- an element that passes is in the filtered list
 kept : {X : Type 0} (p : X → Bool) (xs : List X) (x : X) → Contains xs x → p x ≡ true → Contains (filter p xs) x
 kept p [] x (k, l, is) t = absurd (omega (arith, l))
-kept {X} p (y ∷ ys) x (zero, l, is) t = at_head (p y) refl
-  where
-    at_head : (b : Bool) → p y ≡ b → Contains (cond (p y) (y ∷ filter p ys) (filter p ys)) x
-    at_head true e = subst (λ c. Contains (cond c (y ∷ filter p ys) (filter p ys)) x) (sym e) (0, omega arith, is)
-    at_head false e = absurd (false≢true (sym e ∙ ap p is ∙ t))
-kept {X} p (y ∷ ys) x (suc k, l, is) t = in_tail (p y) refl (kept p ys x (k, omega (arith, l), is) t)
-  where
-    in_tail : (b : Bool) → p y ≡ b → Contains (filter p ys) x → Contains (cond (p y) (y ∷ filter p ys) (filter p ys)) x
-    in_tail true e c = subst (λ c. Contains (cond c (y ∷ filter p ys) (filter p ys)) x) (sym e) (suc c.0, (let m = c.1 in omega (arith, m)), c.2)
-    in_tail false e c = subst (λ c. Contains (cond c (y ∷ filter p ys) (filter p ys)) x) (sym e) c
+kept p (y ∷ ys) x (zero, l, is) t = subst (λ c. Contains (cond c (y ∷ filter p ys) (filter p ys)) x) (sym (ap p is ∙ t)) (0, omega arith, is)
+kept p (y ∷ ys) x (suc k, l, is) t = rest (p y) y x (filter p ys) (kept p ys x (k, omega (arith, l), is) t)
 
 -- the other disks are disks, and other ones, and all of them
-
 other_there : (input : InputLists) (v u : ℕ) → u < length input.disks → u ≢ v → Contains (others input v) u
 other_there input v u l ne =
     let n = length input.disks in
@@ -62,9 +58,7 @@ present_counted input v is =
     (λ k l. ap (λ i. eqb (source input i) v) (sym (in_range n k 0 (omega (arith, l, is.spots_len)))))
 
 both_less : (a b : Bool) → one (a && b) ≤ one b
-both_less true b = omega arith
-both_less false true = omega arith
-both_less false false = omega arith
+both_less a b = grind (arith, nat_tests)
 
 module _ (input : InputLists) (is : IsInput input) (v : ℕ) (there : v < length input.disks) (next : List DiskId) (e : Empties input v next) where
   -- each item of the disk is moved away

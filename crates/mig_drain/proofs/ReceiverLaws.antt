@@ -2,13 +2,16 @@
 use Rattle.mig_drain.proofs.Common.{All, All-head, All-map, All-tail, AreDiskCounts, AreFewest, AreSmall, Bool, DiskId, Err, IfOk, Incoming, InputLists, IsInput, IsShown, IsShownBy, List, Nothing, Ok}
 use Rattle.mig_drain.proofs.Common.{Others, Own, Receiver, Result, Shown, Spot, [], all_free, all_take, ap, append-nil, arith, can_take, cases_eq, cases_lt, cond, count_by, count_by-le-length}
 use Rattle.mig_drain.proofs.Common.{count_by_more_no, count_by_more_yes, disk_at, div_ceil, eq-eqb, eqb, false, filter, filter-append, flat_map, flat_map-append, free_elsewhere, free_slots}
-use Rattle.mig_drain.proofs.Common.{get_or, get_or-replicate, get_or-set_other, get_or-set_same, get_or_append_left, get_or_push, incoming_limit, inl, inr, is_other, length, length-append}
-use Rattle.mig_drain.proofs.Common.{length-filter, length-map, length-range_with_len, length-replicate, length-set, length-take, length-take-le, limits_at, load, map, map-append, min}
+use Rattle.mig_drain.proofs.Common.{get_or, get_or-set_other, get_or-set_same, get_or_append_left, get_or_push, incoming_limit, inl, inr, is_other}
+use Rattle.mig_drain.proofs.Common.{length, length-append, length-filter, length-map, length-range_with_len, length-set}
+use Rattle.mig_drain.proofs.Common.{length-take, length-take-le, limits_at, load, map, map-append, min}
 use Rattle.mig_drain.proofs.Common.{mul-le-mul_left, mul-le-mul_right, ne_eqb, no_disk, no_spot, not, numbers, others, others_can_take, outgoing_limit, own_rounds, places, present, range_more}
 use Rattle.mig_drain.proofs.Common.{range_with_len, rank, receiver, receiver_places, receivers_of, refl, replicate, set, side_positive, side_small, source, subst, suc, sum_by-cons}
 use Rattle.mig_drain.proofs.Common.{sum_by-le-sum_by, sum_by-map, sym, take, take-map, take_more, takes, target, true, with_next, zero, ℕ, ◌*◌, ◌++◌, ◌+◌, ◌-◌, ◌<◌, ◌∙◌, ◌∷◌, ◌≡◌, ◌≢◌, ◌≤◌}
 use Rattle.mig_drain.proofs.Dealing.{length-places, rank_more, rank_stays}
 use Rattle.mig_drain.proofs.Emptying.{other_below}
+use Rattle.std.proofs.Math.Seq.{take-append-add}
+use Rattle.std.proofs.lemmas.List.{length-replicate, take-append-le, take-replicate, take_all}
 
 -- in more rounds they take as many or more
 more_rounds : (list : List Receiver) (q r : ℕ) → q ≤ r → all_take q list ≤ all_take r list
@@ -106,32 +109,25 @@ places_enough input v r items list disks all first room =
 -- The first places, with those of one disk more
 
 take-append : {X : Type 0} (n : ℕ) (xs ys : List X) → take n (xs ++ ys) ≡ take n xs ++ take (n - length xs) ys
-take-append zero xs ys = sym (ap (λ k. take k ys) (less (length xs)))
-  where
-    less : (m : ℕ) → 0 - m ≡ 0
-    less m = omega arith
-take-append (suc n) [] ys = ap (λ k. take k ys) (less n)
-  where
-    less : (m : ℕ) → suc m ≡ suc m - 0
-    less m = omega arith
-take-append (suc n) (x ∷ xs) ys = ap (λ l. x ∷ l) (take-append n xs ys ∙ ap (λ k. take n xs ++ take k ys) (less n (length xs)))
-  where
-    less : (n m : ℕ) → n - m ≡ suc n - suc m
-    less n m = omega arith
+take-append n xs ys = elim (cases_lt n (length xs)) [
+  | inl lt ↦
+      let none : 0 ≡ n - length xs = omega arith in
+      take-append-le n xs ys (omega arith) ∙ sym (append-nil (take n xs)) ∙ ap (λ k. take n xs ++ take k ys) none
+  | inr ge ↦
+      let more : n ≡ length xs + (n - length xs) = omega arith in
+      let rest = take (n - length xs) ys in
+      ap (λ k. take k (xs ++ ys)) more ∙ take-append-add xs ys (n - length xs) ∙ ap (λ l. l ++ rest) (sym (take_all n xs ge))
+]
 
 take-times : {X : Type 0} (m t : ℕ) (x : X) → take m (replicate t x) ≡ replicate (min t m) x
-take-times zero t x = sym (ap (λ k. replicate k x) (least t))
-  where
-    least : (t : ℕ) → min t 0 ≡ 0
-    least t = omega arith
-take-times (suc m) zero x = sym (ap (λ k. replicate k x) (least m))
-  where
-    least : (m : ℕ) → min 0 (suc m) ≡ 0
-    least m = omega arith
-take-times (suc m) (suc t) x = ap (λ l. x ∷ l) (take-times m t x) ∙ sym (ap (λ k. replicate k x) (least m t))
-  where
-    least : (m t : ℕ) → min (suc t) (suc m) ≡ suc (min t m)
-    least m t = omega arith
+take-times {X} m t x = elim (cases_lt t m) [
+  | inl lt ↦
+      let all : t ≡ min t m = omega arith in
+      take_all m (replicate t x) (omega (arith, length-replicate {A = X} t x)) ∙ ap (λ k. replicate k x) all
+  | inr ge ↦
+      let few : m ≡ min t m = omega arith in
+      take-replicate m t x ge ∙ ap (λ k. replicate k x) few
+]
 
 pub places_more : (list : List Receiver) (r n i : ℕ) (d : Receiver) (disks : List DiskId) (times : ℕ) → i < length list → disks ≡ take n (receiver_places r (take i list)) → times ≡ min (takes r (get_or list i d)) (n - length disks)
     → disks ++ replicate times (get_or list i d).disk ≡ take n (receiver_places r (take (i + 1) list))
@@ -147,9 +143,6 @@ places_more list r n i d disks times l is t =
     ap (λ (y : List DiskId). y ++ replicate times x.disk) is ∙ ap (λ k. take n X ++ replicate k x.disk) same ∙ sym right
 
 -- Items that are counted
-
-pub counted_none : (disks : ℕ) (spots : List Spot) → AreDiskCounts disks (take 0 spots) (replicate disks 0)
-counted_none disks spots = record { len = length-replicate disks 0; count = λ v h. get_or-replicate disks v 0 0 h }
 
 pub counted_more : (disks : ℕ) (spots : List Spot) (counts : List ℕ) (i n : ℕ) → i < length spots → (get_or spots i no_spot).disk.0 < disks → n ≡ get_or counts (get_or spots i no_spot).disk.0 0 + 1 → AreDiskCounts disks (take i spots) counts
     → AreDiskCounts disks (take (i + 1) spots) (set counts (get_or spots i no_spot).disk.0 n)

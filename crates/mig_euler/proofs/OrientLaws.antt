@@ -1,9 +1,10 @@
 -- All edges directed.
-use Rattle.mig_euler.proofs.Common.{AllInRange, AllPassed, Bool, DiskId, EndsTrail, IsBalanced, IsBalancedSoFar, List, None, Option, Some, [], ap, arith, bit, cases_eq, cases_lt, cond, enters, eq-eqb}
-use Rattle.mig_euler.proofs.Common.{eqb, false, get_or, inl, inr, is, leaves, length, length-replicate, map, ne_eqb, pair_head, pair_tail, pair_transfer, points_forward, refl, replicate, same_disk}
-use Rattle.mig_euler.proofs.Common.{subst, suc, sum_by-cons, sym, total, true, waits, zero, ℕ, ◌%◌, ◌+◌, ◌<◌, ◌∙◌, ◌∷◌, ◌≡◌, ◌≤◌, ◌⊎◌}
+use Rattle.mig_euler.proofs.Common.{AllInRange, AllPassed, Bool, DiskId, EndsTrail, IsBalanced, IsBalancedSoFar, List, None, Option, Some, [], ap}
+use Rattle.mig_euler.proofs.Common.{arith, bit, cases_eq, cases_lt, cond, enters, eq-eqb, eqb, false, inl, inr, is, leaves, length, length-replicate}
+use Rattle.mig_euler.proofs.Common.{map, ne_eqb, pair_head, pair_tail, pair_transfer, points_forward, refl, replicate, same_disk, subst, suc}
+use Rattle.mig_euler.proofs.Common.{sum_by-cons, sym, total, true, waits, zero, ℕ, ◌%◌, ◌+◌, ◌<◌, ◌∙◌, ◌∷◌, ◌≡◌, ◌≤◌, ◌⊎◌}
 use Rattle.mig_base.specs.Directions as base
-use Rattle.mig_euler.proofs.Trail.{IsBalanced-trail, even_kept, odd_ended, trail_closed, IsBalanced-none}
+use Rattle.mig_euler.proofs.Trail.{IsBalanced-trail, even_kept, odd_ended, IsBalanced-none}
 
 -- ---- where no edge waits anywhere, the counts are those of the directions
 
@@ -83,15 +84,6 @@ even_after ends old now i e odd below =
     (λ v h. even_kept ends old now (record { 0 = i }) e.end v e.trail e.stuck (below v h) (inl odd))
     (odd_ended ends old now (record { 0 = i }) e.end e.trail e.stuck odd)
 
-pub zero_after : (ends : List (DiskId × DiskId)) (old now : List (Option Bool)) (i : ℕ) → EndsTrail ends old now (record { 0 = i }) → ((v : DiskId) → total (waits v) ends old % 2 ≡ 0) → ((v : DiskId) → v.0 < i → total (waits v) ends old ≡ 0) → (v : DiskId) → v.0 < i + 1 → total (waits v) ends now ≡ 0
-zero_after ends old now i e even below =
-    below_disk (λ (v : DiskId). total (waits v) ends now ≡ 0) i
-    (λ v h. omega (arith, e.trail.fewer v, below v h))
-    (trail_closed ends old now (record { 0 = i }) e.end e.trail e.stuck even)
-
-pub still_even : (ends : List (DiskId × DiskId)) (old now : List (Option Bool)) (s : DiskId) → EndsTrail ends old now s → ((v : DiskId) → total (waits v) ends old % 2 ≡ 0) → (v : DiskId) → total (waits v) ends now % 2 ≡ 0
-still_even ends old now s e even v = even_kept ends old now s e.end v e.trail e.stuck (even v) (inr even)
-
 -- from the disks in range to all
 pub everywhere : (ends : List (DiskId × DiskId)) (ds : List (Option Bool)) (n : ℕ) → AllInRange ends n → ((v : DiskId) → v.0 < n → total (waits v) ends ds ≡ 0) → (v : DiskId) → total (waits v) ends ds ≡ 0
 everywhere ends ds n range h v = elim (cases_lt v.0 n) [ inl l ↦ h v l | inr g ↦ out_of_range ends ds n range v g ]
@@ -105,22 +97,8 @@ none_directed v [] n = (refl, refl)
 none_directed v (p ∷ ps) zero = (refl, refl)
 none_directed v (p ∷ ps) (suc n) = let r = none_directed v ps n in (omega (arith, r.0), omega (arith, r.1))
 
-zero_at : (n i : ℕ) → ◌≡◌ {A = ℕ} (get_or {A = ℕ} (replicate {A = ℕ} n 0) i 0) 0
-zero_at zero i = refl
-zero_at (suc n) zero = refl
-zero_at (suc n) (suc i) = zero_at n i
-
 pub ready_first : (ends : List (DiskId × DiskId)) (n : ℕ) (first : List ℕ) → n ≡ length ends → AllInRange ends (length first) → AllPassed ends (replicate n None) first → IsBalancedSoFar ends (replicate n None) first
 ready_first ends n first len range passed = record { len = length-replicate n None ∙ len; in_range = range; passed = passed; even = IsBalanced-none ends (replicate n None) (λ v. none_directed v ends n) }
-
-pub ready_start : (ends : List (DiskId × DiskId)) (disks n : ℕ) → n ≡ length ends → AllInRange ends disks → IsBalancedSoFar ends (replicate n None) (replicate disks 0)
-ready_start ends disks n len range =
-    record {
-      len = length-replicate n None ∙ len;
-      in_range = subst (λ m. AllInRange ends m) (sym (length-replicate disks 0)) range;
-      passed = record { bound = λ v. omega (arith, zero_at disks v.0); passed = λ v e h w. absurd (omega (arith, h, zero_at disks v.0)) };
-      even = IsBalanced-none ends (replicate n None) (λ v. none_directed v ends n);
-    }
 
 pub settled_balances : (ends : List (DiskId × DiskId)) (ds : List (Option Bool)) (out : List Bool) → IsBalanced ends ds → ((w : DiskId) → total (waits w) ends ds ≡ 0) → length ds ≡ length ends → out ≡ map points_forward ds → base.Balances (map pair_transfer ends) out
 settled_balances ends ds out e h len is_out = subst (λ (q : List Bool). base.Balances (map pair_transfer ends) q) (sym is_out) (Balances-settled ends ds e h len)

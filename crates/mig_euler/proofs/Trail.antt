@@ -12,9 +12,6 @@ total-set f (q ∷ ps) (c ∷ ds) zero p d e hp hd =
     omega (arith, one, two)
 total-set f (q ∷ ps) (c ∷ ds) (suc i) p d e hp hd = omega (arith, total-set f ps ds i p d e hp hd)
 
-pub IsTrail-start : (ps : List (DiskId × DiskId)) (ds : List (Option Bool)) (s : DiskId) → IsTrail ps ds ds s s
-IsTrail-start ps ds s = record { len = refl; flow = λ v. omega arith; parity = λ v. omega arith; fewer = λ v. omega arith }
-
 -- the edge at i leads from t to w
 pub IsTrail-more : (ps : List (DiskId × DiskId)) (old now : List (Option Bool)) (s t w : DiskId) → IsTrail ps old now s t → (i : ℕ) (p : DiskId × DiskId) (d : Bool) → slice_get ps i ≡ Some p → slice_get now i ≡ Some None → pair_tail p d ≡ t → pair_head p d ≡ w → IsTrail ps old (set now i (Some d)) s w
 IsTrail-more ps old now s t w x i p d hp hd ht hw =
@@ -136,13 +133,3 @@ odd_ended ps old now s t x stuck odd =
 
 pub IsBalanced-none : (ps : List (DiskId × DiskId)) (ds : List (Option Bool)) → ((v : DiskId) → (total (leaves v) ps ds ≡ 0) × (total (enters v) ps ds ≡ 0)) → IsBalanced ps ds
 IsBalanced-none ps ds h = record { out_most = λ v. omega (arith, (h v).0); in_most = λ v. omega (arith, (h v).1); odd = λ v m. (h v).0 ∙ sym (h v).1 }
-
--- where everywhere an even number waits, the trail comes back
-pub trail_closed : (ps : List (DiskId × DiskId)) (old now : List (Option Bool)) (s t : DiskId) → IsTrail ps old now s t → total (waits t) ps now ≡ 0 → ((v : DiskId) → total (waits v) ps old % 2 ≡ 0) → total (waits s) ps now ≡ 0
-trail_closed ps old now s t x stuck even =
-    elim (is_cases t s) [
-      | inl a ↦ ap (λ (q : DiskId). total (waits q) ps now) (sym a.0) ∙ stuck
-      | inr a ↦
-          (let one : is t t ≡ 1 = elim (is_cases t t) [ inl c ↦ c.1 | inr c ↦ absurd (c.0 refl) ] in
-          absurd (omega (arith, x.parity t, stuck, even t, one, a.1)))
-    ]

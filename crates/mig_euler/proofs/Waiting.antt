@@ -1,6 +1,6 @@
 -- Edges that wait for a direction.
-use Rattle.mig_euler.proofs.Common.{Bool, DiskId, EdgeId, IsWaiting, List, None, Option, PassedBelow, Some, ap, arith, cases_eq, get_or, inl, inr, length, same_Some, same_edge, slice_get}
-use Rattle.mig_euler.proofs.Common.{slice_get-get_or, some_pair_parts, subst, sym, ℕ, ◌+◌, ◌<◌, ◌∙◌, ◌≡◌, ◌⊎◌}
+use Rattle.mig_euler.proofs.Common.{Bool, DiskId, IsWaiting, List, None, Option, Some, ap, arith, get_or, inl, inr, length, same_Some, slice_get}
+use Rattle.mig_euler.proofs.Common.{slice_get-get_or, some_pair_parts, sym, ℕ, ◌<◌, ◌∙◌, ◌≡◌, ◌⊎◌}
 
 pub waits_found : (ends : List (DiskId × DiskId)) (ds : List (Option Bool)) (v : DiskId) (i : ℕ) (p : DiskId × DiskId) (d : Option Bool) → i < length ends → length ds ≡ length ends → ((get_or ds i d ≡ None) × (((get_or ends i p).0 ≡ v) ⊎ ((get_or ends i p).1 ≡ v))) → IsWaiting ends ds v (record { 0 = i })
 waits_found ends ds v i p d h len w =
@@ -25,10 +25,3 @@ waits_none ends ds v i p d h len never w =
         | inr x ↦ inr (some_pair_parts (get_or ends i p).0 w.at.0 (get_or ends i p).1 v (sym row ∙ x)).1
       ],
     )
-
-pub PassedBelow-more : (ends : List (DiskId × DiskId)) (ds : List (Option Bool)) (v : DiskId) (i : ℕ) → PassedBelow ends ds v i → (IsWaiting ends ds v (record { 0 = i }) → ⊥) → PassedBelow ends ds v (i + 1)
-PassedBelow-more ends ds v i below here e h w =
-    elim (cases_eq e.0 i) [
-      | inl s ↦ here (subst (λ (q : EdgeId). IsWaiting ends ds v q) (same_edge e (record { 0 = i }) s) w)
-      | inr n ↦ below e (omega arith) w
-    ]

@@ -1,5 +1,4 @@
 mod ArmingLaws
 mod MarksRead
-mod OneByte
 pub mod Steps
 pub mod Common

@@ -1,37 +1,16 @@
 -- The steps that are left, and what many of them write and add.
-use Rattle.mig_live.proofs.Common.{Cell, Changes, ChangesOnly, Event, InputLists, List, NoCell, OnOk, Result, Shift, Some, State, Task, [], ap, append-nil, append_assoc, arith, cases_lt, changes_none}
-use Rattle.mig_live.proofs.Common.{changes_then, changes_wider, drop, drop-drop, flight_of, inl, inr, length, length-append, length-map, map, on_ok_weaker, refl, round_at, round_size, slice_get}
-use Rattle.mig_live.proofs.Common.{slice_get_within, slot_of, steps_after, subst, suc, sum_by, sum_by-cons, sym, take, take-add, take-append-drop, zero, ℕ, ◌*◌, ◌++◌, ◌+◌, ◌-◌, ◌<◌, ◌∙◌, ◌∷◌, ◌≡◌, ◌≤◌, ◌⊎◌}
-use Rattle.mig_live.specs.Actions.{Action, AllWrite, AreMade, AreMadeInPart, Copy, Erase, IsMade, MakesFirst, SetMark, Sync, Writes, actions_after, actions_from, actions_since, all_events, copies}
-use Rattle.mig_live.specs.Actions.{erasures, events_of}
-use Rattle.mig_live.proofs.StepCounts.{shifts_past}
+use Rattle.mig_live.proofs.Common.{Cell, Changes, ChangesOnly, Event, InputLists, List, NoCell, OnOk, Result, Shift, Some, State, Task, [], ap}
+use Rattle.mig_live.proofs.Common.{append-nil, append_assoc, arith, cases_lt, changes_none, changes_then, changes_wider, drop, drop-drop, flight_of}
+use Rattle.mig_live.proofs.Common.{inl, inr, length, length-append, length-map, map, on_ok_weaker, refl, round_at, round_size, slice_get}
+use Rattle.mig_live.proofs.Common.{slice_get_within, slot_of, steps_after, subst, suc, sym, take, take-add, take-append-drop, zero, ℕ, ◌++◌, ◌+◌, ◌-◌}
+use Rattle.mig_live.proofs.Common.{◌<◌, ◌∙◌, ◌∷◌, ◌≡◌, ◌≤◌}
+use Rattle.mig_live.specs.Actions.{Action, AllWrite, AreMade, AreMadeInPart, Copy, Erase, IsMade, MakesFirst, SetMark, Sync, Writes, actions_after}
+use Rattle.mig_live.specs.Actions.{actions_from, actions_since, all_events, copies, erasures, events_of}
+use Rattle.std.proofs.Common.{add-one}
+use Rattle.mig_live.proofs.StepCounts.{first_steps, shifts_past, steps_of_rounds}
 use Rattle.mig_live.specs.Replies.{AreMadeUpTo}
 use Rattle.mig_live.specs.declared.serving.ServeFault.{ServeFault}
 use Rattle.mig_live.specs.declared.serving.ServeFault.TheVariants as serve_fault
-
--- Lists
-
-pub take_nothing : {A : Type 0} (n : ℕ) → take {A = A} n [] ≡ []
-take_nothing zero = refl
-take_nothing (suc n) = refl
-
-drop_nothing : {A : Type 0} (n : ℕ) → drop {A = A} n [] ≡ []
-drop_nothing zero = refl
-drop_nothing (suc n) = refl
-
--- the first m, the next one, and r more
-take_parts : {A : Type 0} (m r : ℕ) (l : List A) → take (m + (1 + r)) l ≡ take m l ++ (take 1 (drop m l) ++ take r (drop 1 (drop m l)))
-take_parts m r l = take-add m (1 + r) l ∙ ap (λ rest. take m l ++ rest) (take-add 1 r (drop m l))
-
--- all are taken, where none is left
-pub taken_all : {A : Type 0} (n count : ℕ) (l : List A) → n ≤ count → (n ≡ count) ⊎ (drop n l ≡ []) → (take n l ≡ take count l) × (drop n l ≡ drop count l)
-taken_all n count l le (inl same) = (ap (λ (k : ℕ). take k l) same, ap (λ (k : ℕ). drop k l) same)
-taken_all n count l le (inr none) =
-    let more = count - n in
-    let is : n + more ≡ count = omega (arith, le) in (
-      sym (append-nil (take n l)) ∙ ap (λ rest. take n l ++ rest) (sym (take_nothing more) ∙ ap (λ rest. take more rest) (sym none)) ∙ sym (take-add n more l) ∙ ap (λ (k : ℕ). take k l) is,
-      none ∙ sym (drop_nothing more) ∙ ap (λ rest. drop more rest) (sym none) ∙ drop-drop more n l ∙ ap (λ (k : ℕ). drop k l) is,
-    )
 
 -- The steps that are left
 
@@ -59,12 +38,8 @@ module _ (input : InputLists) where
   after_last n (suc k) (r ∷ rs) le = after_last n k rs (omega (arith, le))
 
 module _ (task : Task) (k : ℕ) where
-  next_is : (p : ℕ) → suc p ≡ p + 1
-  next_is p = omega arith
-
   pub left_erase : (p : ℕ) (s : Shift) → slice_get (round_at task.plan k) p ≡ Some s → drop p (actions_since task k) ≡ Erase (slot_of task.input s.from) ∷ drop (p + 1) (actions_since task k)
-  left_erase p s at = subst (λ (n : ℕ). drop p (actions_since task k) ≡ Erase (slot_of task.input s.from) ∷ drop n (actions_since task k)) (next_is p)
-      (drop_in (λ s. Erase (slot_of task.input s.from)) (round_at task.plan k) (actions_after task k) p s at)
+  left_erase p s at = rw add-one (drop_in (λ s. Erase (slot_of task.input s.from)) (round_at task.plan k) (actions_after task k) p s at)
 
   pub past_erasures : (p place : ℕ) → p ≡ round_size task.plan k + place → drop p (actions_since task k) ≡ drop place (actions_after task k)
   past_erasures p place is = drop_past (λ s. Erase (slot_of task.input s.from)) (round_at task.plan k) (actions_after task k) p place is
@@ -77,8 +52,7 @@ module _ (task : Task) (k : ℕ) where
     these = after_round task.input k k task.plan lt
 
     pub left_copy : (place : ℕ) (s : Shift) → slice_get (round_at task.plan (suc k)) place ≡ Some s → drop place (actions_after task k) ≡ Copy (flight_of task.input s) ∷ drop (place + 1) (actions_after task k)
-    left_copy place s at = subst (λ (l : List Action). drop place l ≡ Copy (flight_of task.input s) ∷ drop (place + 1) l) (sym these)
-        (subst (λ (n : ℕ). drop place (copies task.input (round_at task.plan (suc k)) ++ rest) ≡ Copy (flight_of task.input s) ∷ drop n (copies task.input (round_at task.plan (suc k)) ++ rest)) (next_is place)
+    left_copy place s at = rw add-one (subst (λ (l : List Action). drop place l ≡ Copy (flight_of task.input s) ∷ drop (suc place) l) (sym these)
         (drop_in (λ s. Copy (flight_of task.input s)) (round_at task.plan (suc k)) rest place s at))
 
     past_copies : (p n : ℕ) → p ≡ round_size task.plan (suc k) + n → drop p (actions_after task k) ≡ drop n rest
@@ -100,9 +74,6 @@ module _ (task : Task) (k : ℕ) where
   ]
 
 -- how many steps there are
-abbrev steps_of_rounds : List (List Shift) → ℕ
-steps_of_rounds rounds = sum_by (λ shifts. 2 * length shifts + 2) rounds
-
 count_from : (input : InputLists) (n : ℕ) (rounds : List (List Shift)) → length (actions_from input n rounds) ≡ steps_of_rounds rounds + 1
 count_from input n [] = refl
 count_from input n (shifts ∷ rounds) =
@@ -113,7 +84,7 @@ count_from input n (shifts ∷ rounds) =
       length-append (erasures input shifts) tail,
       length-map shifts (λ s. Copy (flight_of input s)),
       length-map shifts (λ s. Erase (slot_of input s.from)),
-      sum_by-cons (λ (r : List Shift). 2 * length r + 2) shifts rounds,
+      first_steps shifts rounds,
       count_from input (suc n) rounds,
     )
 
@@ -159,10 +130,6 @@ pub made_one : (a : Action) (old new : State) → IsMade a old new → AreMade (
 made_one a old new made = subst (λ (l : List Event). Changes (AllWrite (a ∷ [])) (AllWrite (a ∷ [])) l old new) (sym (append-nil (events_of a)))
     (changes_wider (AllWrite (a ∷ [])) (AllWrite (a ∷ [])) (Writes a) (Writes a) (λ cell here. inl here) (λ cell here. inl here) (events_of a) old new made.change)
 
--- none of these is made
-pub part_none : (others : List Action) (old new : State) → AreMade [] old new → AreMadeInPart [] others old new
-part_none others old new none = record { made = []; begun = []; left = others; are = refl; one = omega arith; events = 0; change = none }
-
 -- steps are made, and then of others some
 part_change : (xs ys : List Action) (old mid new : State) → AreMade xs old mid → (p : AreMadeInPart [] ys mid new)
     → Changes (AllWrite (xs ++ (p.made ++ p.begun))) (AllWrite (xs ++ (p.made ++ p.begun))) (all_events (xs ++ p.made) ++ take p.events (all_events p.begun)) old new
@@ -180,19 +147,7 @@ part_of_all m s all old new p =
     ∙ take-append-drop s (drop m all))
     ∙ take-append-drop m all
 
--- these may be told as the first of all
-pub part_then : (xs ys : List Action) (old mid new : State) → AreMade xs old mid → AreMadeInPart [] ys mid new → AreMadeInPart xs ys old new
-part_then xs ys old mid new first p = record {
-  made = p.made;
-  begun = p.begun;
-  left = p.left;
-  are = p.are;
-  one = p.one;
-  events = p.events;
-  change = part_change xs ys old mid new first p;
-}
-
--- or as some of all
+-- these may be told as some of all
 pub part_within : (xs ys rest all : List Action) (old mid new : State) → all ≡ xs ++ (ys ++ rest) → AreMade xs old mid → AreMadeInPart [] ys mid new → AreMadeInPart [] all old new
 part_within xs ys rest all old mid new is first p = record {
   made = xs ++ p.made;
@@ -208,15 +163,18 @@ part_within xs ys rest all old mid new is first p = record {
 -- a step that fails after so many others
 pub part_after : (m count : ℕ) (actions : List Action) (old mid new : State) → m < count → AreMade (take m actions) old mid → AreMadeInPart [] (take 1 (drop m actions)) mid new → AreMadeInPart [] (take count actions) old new
 part_after m count actions old mid new lt made p = part_within (take m actions) (take 1 (drop m actions)) (take (count - (m + 1)) (drop 1 (drop m actions))) (take count actions) old mid new
-    (ap (λ (n : ℕ). take n actions) (let e : count ≡ m + (1 + (count - (m + 1))) = omega (arith, lt) in e) ∙ take_parts m (count - (m + 1)) actions) made p
+    (ap (λ (n : ℕ). take n actions) (let e : count ≡ m + (1 + (count - (m + 1))) = omega (arith, lt) in e)
+    ∙ take-add m (1 + (count - (m + 1))) actions ∙ ap (λ rest. take m actions ++ rest) (take-add 1 (count - (m + 1)) (drop m actions))) made p
 
 -- one more step
-pub made_more : (m : ℕ) (actions left : List Action) (a : Action) (old mid new : State) → drop m actions ≡ a ∷ left → AreMade (take m actions) old mid → IsMade a mid new
-    → AreMade (take (m + 1) actions) old new × (left ≡ drop (m + 1) actions)
-made_more m actions left a old mid new is first one = (
-  subst (λ (l : List Action). AreMade l old new) (ap (λ (l : List Action). take m actions ++ take 1 l) (sym is) ∙ sym (take-add m 1 actions)) (made_then (take m actions) (a ∷ []) old mid new first (made_one a mid new one)),
-  ap (λ (l : List Action). drop 1 l) (sym is) ∙ drop-drop 1 m actions,
-)
+pub made_more : (m : ℕ) (actions now left : List Action) (old mid new : State) → now ≡ drop m actions → AreMade (take m actions) old mid
+    → (a : Action) × (now ≡ a ∷ left) × IsMade a mid new → AreMade (take (m + 1) actions) old new × (left ≡ drop (m + 1) actions)
+made_more m actions now left old mid new rest first (a, next, one) =
+    let is = sym next ∙ rest in (
+      subst (λ (l : List Action). AreMade l old new) (ap (λ (l : List Action). take m actions ++ take 1 l) is ∙ sym (take-add m 1 actions))
+          (made_then (take m actions) (a ∷ []) old mid new first (made_one a mid new one)),
+      ap (λ (l : List Action). drop 1 l) is ∙ drop-drop 1 m actions,
+    )
 
 -- many more
 pub made_many : (m n : ℕ) (actions : List Action) (old mid new : State) → AreMade (take m actions) old mid → AreMade (take n (drop m actions)) mid new → AreMade (take (m + n) actions) old new
@@ -247,10 +205,13 @@ makes_same result actions left others rest old new is same makes = subst (λ (l 
 
 -- an order of which no step is made
 pub none_up_to : (others : List Action) (old new : State) (fault : ServeFault) → AreMade [] old new → AreMadeUpTo [] others old new fault
-none_up_to others old new serve_fault.Store none = part_none others old new none
+none_up_to others old new serve_fault.Store none =
+    record { made = []; begun = []; left = others; are = refl; one = omega arith; events = 0; change = none }
 none_up_to others old new serve_fault.Sink none = none
 
 -- an order after others
 pub made_up_to : (xs ys : List Action) (old mid new : State) (fault : ServeFault) → AreMade xs old mid → AreMadeUpTo [] ys mid new fault → AreMadeUpTo xs ys old new fault
-made_up_to xs ys old mid new serve_fault.Store first part = part_then xs ys old mid new first part
+made_up_to xs ys old mid new serve_fault.Store first p =
+    let change = part_change xs ys old mid new first p in
+    record { made = p.made; begun = p.begun; left = p.left; are = p.are; one = p.one; events = p.events; change = change }
 made_up_to xs ys old mid new serve_fault.Sink first none = subst (λ (l : List Action). AreMade l old new) (append-nil xs) (made_then xs [] old mid new first none)

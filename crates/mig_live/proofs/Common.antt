@@ -36,11 +36,11 @@ pub use Rattle.mig_base.specs.declared.ids.ItemId.{ItemId}
 pub use Rattle.mig_base.specs.declared.ids.Shift.{Shift}
 pub use Rattle.mig_base.specs.declared.ids.Spot.{Spot}
 pub use Rattle.mig_base.specs.declared.limits.TheConstants.{MAX_FILE_BYTES}
-pub use Rattle.mig_base.specs.declared.names.Name.{Name}
 pub use Rattle.mig_io.specs.Held.{Extends, ExtendsByPrefix, ExtendsInPart, SinkState}
 pub use Rattle.mig_jobs.proofs.JobRounds.{round_short}
 pub use Rattle.mig_journal.proofs.Steps.{look_quiet, on_ok_is}
-pub use Rattle.mig_live.specs.Actions.{Action, AllWrite, AreMade, AreMadeInPart, Copy, Erase, IsMade, MakesFirst, SetMark, Sync, Writes, actions_after, actions_from, actions_left, actions_since, all_events, copies, erasures, events_of}
+pub use Rattle.mig_live.specs.Actions.{Action, AllWrite, AreMade, AreMadeInPart, Copy, Erase, IsMade, SetMark, Sync, actions_after, actions_from}
+pub use Rattle.mig_live.specs.Actions.{actions_left, actions_since, all_events, copies, erasures}
 pub use Rattle.mig_live.specs.Orders.{IsOrder, all_reads, all_steps, order_line, order_words, steps_of}
 pub use Rattle.mig_live.specs.Replies.{AreCutOff, ArePut, ArePutUpTo, AreReplies, replies, reply_line}
 pub use Rattle.mig_live.specs.Scripts.{IsScriptError, IsStopAt, Over, Piece, ScriptLine, ScriptNext, ScriptPlace, ScriptText, WereRead}
@@ -55,14 +55,13 @@ pub use Rattle.mig_mover.specs.Erasures.{HoldsZeros}
 pub use Rattle.mig_mover.specs.Moves.{Enters}
 pub use Rattle.mig_store.specs.declared.store.StoreFailed.{StoreFailed}
 pub use Rattle.mig_text.proofs.Common.{decimal_injective}
-pub use Rattle.mig_words.proofs.PutTexts.{begins_more, puts_nothing, then_begins, then_extends}
+pub use Rattle.mig_words.proofs.PutTexts.{puts_nothing, then_extends}
 pub use Rattle.mig_words.specs.Puts.{Puts}
 pub use Rattle.sha2.specs.Sha256.{sha256}
 pub use Rattle.std.proofs.Common.{Bool, Err, drop-drop, take-add, IfNone, IfSome, IsErrAnd, List, None, Ok, OnOk, Option, Result, Some, [], ap, append-nil, append_assoc, arith, drop, false, get_or, inl, inr}
 pub use Rattle.std.proofs.Common.{length, length-append, map, refl, subst, suc, sym, take, true, zero, ℕ, ⊎_elim, ◌*◌, ◌++◌, ◌+◌, ◌-◌, ◌<◌, ◌∙◌, ◌∷◌, ◌≡◌, ◌≢◌, ◌≤◌, ◌⊎◌}
-pub use Rattle.std.proofs.Math.Seq.{drop-cons}
 pub use Rattle.std.proofs.lemmas.Bool.Decides.{nat_tests}
-pub use Rattle.std.proofs.lemmas.Bool.{cases_Bool, cases_eq, cases_lt, cond-true, eqb-true}
+pub use Rattle.std.proofs.lemmas.Bool.{cases_Bool, cases_eq, cases_lt, cond-false, cond-true, eqb-true}
 pub use Rattle.std.proofs.lemmas.Grind.{flat_map-append}
 pub use Rattle.std.proofs.lemmas.List.{drop_all, map-append, nil_from_length, take-append-drop, take_all, take_more}
 pub use Rattle.std.proofs.lemmas.List.Elements.{All-contains, Contains-get_or}

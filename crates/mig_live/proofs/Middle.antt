@@ -1,14 +1,13 @@
 -- The middle of a round, by the laws of safe images.
-use Rattle.mig_live.proofs.Common.{All-contains, At, Bool, Cell, Changes, ChangesOnly, Contains, Contains-get_or, Contents, Event, HasDone, HoldsZeros, IfSome, Image, IsAmong, IsCopied, IsCopy}
-use Rattle.mig_live.proofs.Common.{IsAmongTargets, IsInUse, IsInput, IsJobCell, IsLeftBy, IsLegal, IsLoose, IsSettled, IsSound, IsSoundAfter, IsSourceSlot, IsTaken, IsUnderway, LeavesOnly, List}
-use Rattle.mig_live.proofs.Common.{InputLists, Mark, NoCell, Option, Runs, SameBut, SettledBut, Shift, Some, Spot, State, Tells, [], any_contains, ap, arith, at_target, cases_Bool, cases_cell, cases_eq}
-use Rattle.mig_live.proofs.Common.{changes_leave, changes_wider, flights, flights_same, from_disk, get_or, get_or_from_slice_get, here, in_some, inl, inr, is_marked, is_one, layout_at, leaves}
-use Rattle.mig_live.proofs.Common.{length, marking, moved_cases, one_target, other_bytes, refl, round_at, same_image, same_wider, settled_change, slice_get, slice_get-get_or, slice_get_within}
-use Rattle.mig_live.proofs.Common.{slot_apart, slot_of, sound_after, source_facts, subst, suc, sym, target_free, to_disk, told_is, told_kept, unmarked, zero, zeros, ℕ, ⊎_elim, ◌+◌, ◌<◌, ◌∙◌, ◌∷◌}
-use Rattle.mig_live.proofs.Common.{◌≡◌, ◌≤◌, ◌⊎◌}
-
-same_shift : (s t : Shift) → Some s ≡ Some t → s ≡ t
-same_shift s t e = cc
+use Rattle.mig_live.proofs.Common.{All-contains, At, Bool, Cell, Changes, ChangesOnly, Contains, Contains-get_or, Contents, Event, HasDone}
+use Rattle.mig_live.proofs.Common.{HoldsZeros, IfSome, Image, IsAmong, IsCopied, IsCopy, IsAmongTargets, IsInUse, IsInput, IsJobCell, IsLegal}
+use Rattle.mig_live.proofs.Common.{IsLoose, IsSettled, IsSound, IsSoundAfter, IsSourceSlot, IsTaken, IsUnderway, LeavesOnly, List, InputLists, Mark}
+use Rattle.mig_live.proofs.Common.{NoCell, Option, Runs, SameBut, SettledBut, Shift, Some, Spot, State, Tells, [], any_contains, ap, arith, at_target}
+use Rattle.mig_live.proofs.Common.{cases_Bool, cases_cell, cases_eq, changes_leave, changes_wider, flights, flights_same, from_disk, get_or}
+use Rattle.mig_live.proofs.Common.{get_or_from_slice_get, here, inl, inr, is_marked, is_one, layout_at, leaves, length, marking, one_target}
+use Rattle.mig_live.proofs.Common.{other_bytes, refl, round_at, same_image, same_wider, settled_change, slice_get, slice_get-get_or, slice_get_within}
+use Rattle.mig_live.proofs.Common.{slot_apart, slot_of, sound_after, subst, suc, sym, target_free, to_disk, told_is, told_kept, unmarked, zero, zeros}
+use Rattle.mig_live.proofs.Common.{ℕ, ⊎_elim, ◌+◌, ◌<◌, ◌∙◌, ◌∷◌, ◌≡◌, ◌≤◌, ◌⊎◌}
 
 among_has : (n : ℕ) (shifts : List Shift) (s : Shift) → IsAmong n shifts s → Contains shifts s
 among_has n shifts s (place, lt, at) = (place, slice_get_within shifts place s at, get_or_from_slice_get shifts place s s at)
@@ -23,18 +22,15 @@ among_more n m shifts s le (place, lt, at) = (place, omega arith, at)
 -- one more is the last, or one of those before
 among_cases : (n : ℕ) (shifts : List Shift) (s t : Shift) → slice_get shifts n ≡ Some t → IsAmong (n + 1) shifts s → IsAmong n shifts s ⊎ (s ≡ t)
 among_cases n shifts s t here (place, lt, at) = elim (cases_eq place n) [
-  | inl same ↦ inr (same_shift s t (sym at ∙ ap (λ (j : ℕ). slice_get shifts j) same ∙ here))
+  | inl same ↦ inr cc
   | inr other ↦ inl (place, omega arith, at)
 ]
-
-left_more : (input : InputLists) (n m : ℕ) (shifts : List Shift) (cell : Cell) → n ≤ m → IsLeftBy input n shifts cell → IsLeftBy input m shifts cell
-left_more input n m shifts cell le (s, among, at) = (s, among_more n m shifts s le among, at)
 
 filled_more : (input : InputLists) (n m : ℕ) (shifts : List Shift) (cell : Cell) → n ≤ m → IsAmongTargets input n shifts cell → IsAmongTargets input m shifts cell
 filled_more input n m shifts cell le (s, among, at) = (s, among_more n m shifts s le among, at)
 
 loose_more : (input : InputLists) (plan : List (List Shift)) (k e c f d : ℕ) (cell : Cell) → e ≤ f → c ≤ d → IsLoose input plan k e c cell → IsLoose input plan k f d cell
-loose_more input plan k e c f d cell le_e le_c (inl from) = inl (left_more input e f (round_at plan k) cell le_e from)
+loose_more input plan k e c f d cell le_e le_c (inl (s, among, at)) = inl (s, among_more e f (round_at plan k) s le_e among, at)
 loose_more input plan k e c f d cell le_e le_c (inr to) = inr (filled_more input c d (round_at plan (suc k)) cell le_c to)
 
 -- the slots of the middle of a round are in use around it
@@ -94,14 +90,11 @@ module _ (input : InputLists) (valid : IsInput input) (plan : List (List Shift))
           (step_tells (λ c. c ≡ slot_of input s.from) [] old new e 0 change way (slot_of input s.from)
           (inr (s.from, (k, inl (any_contains (λ (t : Shift). t.from ≡ s.from) (round_at plan k) s (among_has (e + 1) (round_at plan k) s (e, omega arith, here)) refl)), refl))) zeroed
 
-      none_filled : (cell : Cell) → IsAmongTargets input 0 (round_at plan (suc k)) cell → ⊥
-      none_filled cell (t, among, at) = let low = among.1 in omega arith
-
       still_zeros : (m : Shift) → IsAmong (e + 1) (round_at plan k) m → new.reads (slot_of input m.from) ≡ Some zeros
       still_zeros m among = elim (cases_cell (slot_of input m.from) (slot_of input s.from)) [
         | inl same ↦ ap new.reads same ∙ now_zeros
         | inr other ↦ elim (among_cases e (round_at plan k) m s here among) [
-          | inl before ↦ change.told.same (slot_of input m.from) other ∙ way.erased m before (none_filled (slot_of input m.from))
+          | inl before ↦ change.told.same (slot_of input m.from) other ∙ way.erased m before (λ filled. let low = filled.1.1 in omega arith)
           | inr last ↦ absurd (other (ap (λ (t : Shift). slot_of input t.from) last))
         ]
       ]
@@ -165,23 +158,10 @@ module _ (input : InputLists) (valid : IsInput input) (plan : List (List Shift))
   }
     where
       loose : (cell : Cell) → IsSourceSlot input plan k cell → IsLoose input plan k e 0 cell
-      loose cell (spot, any, at) = inl (any.1, (any.0, (let low = any.2 in omega arith), slice_get_here), ap (λ (p : Spot). slot_of input p) any.4 ∙ at)
-        where
-          slice_get_here : slice_get (round_at plan k) any.0 ≡ Some any.1
-          slice_get_here = slice_get-get_or (round_at plan k) any.0 any.1 any.2 ∙ ap Some any.3
-
-  -- and the end of the erasures is such a round
-  pub to_done : (s : State) (e : ℕ) → length (round_at plan k) ≤ e → IsUnderway asked input plan digest contents s k e 0 → HasDone asked input plan digest contents s k
-  to_done s e all way = record {
-    sound = way.sound;
-    erased = λ j d lt. way.erased (get_or (round_at plan k) j d) (j, omega arith, slice_get-get_or (round_at plan k) j d lt) (λ filled. let low = filled.1.1 in omega arith);
-    settled = λ image left. same_wider (IsLoose input plan k e 0) (IsSourceSlot input plan k) left_by s.reads image (way.settled image left);
-    tells = way.tells;
-  }
-    where
-      left_by : (cell : Cell) → IsLoose input plan k e 0 cell → IsSourceSlot input plan k cell
-      left_by cell (inl (t, among, at)) = (t.from, any_contains (λ (u : Shift). u.from ≡ t.from) (round_at plan k) t (among_has e (round_at plan k) t among) refl, at)
-      left_by cell (inr (t, among, at)) = absurd (let low = among.1 in omega arith)
+      loose cell (spot, any, at) =
+          let low = any.2 in
+          let is = slice_get-get_or (round_at plan k) any.0 any.1 any.2 ∙ ap Some any.3 in
+          inl (any.1, (any.0, omega arith, is), ap (λ (p : Spot). slot_of input p) any.4 ∙ at)
 
   module _ (lt : k < length plan) where
     legal : IsLegal input (At input plan k) (round_at plan (suc k))
@@ -289,30 +269,6 @@ module _ (input : InputLists) (valid : IsInput input) (plan : List (List Shift))
 
             is_set : set.reads (Mark (suc k)) ≡ Some (1 ∷ [])
             is_set = told_is (set.reads (Mark (suc k))) (1 ∷ []) (tells_set (Mark (suc k)) (inl (inr (inr (suc k, omega arith, lt, refl))))) marked
-
-    -- a round that is copied and settled, in the words of whole rounds
-    module _ (s : State) (e c : ℕ) (all_from : length (round_at plan k) ≤ e) (all_to : length (round_at plan (suc k)) ≤ c) (none : flights s ≡ []) where
-      has_among : (t : Shift) → Contains (round_at plan (suc k)) t → IsAmong c (round_at plan (suc k)) t
-      has_among t has = (has.0, (let low = has.1 in omega arith), slice_get-get_or (round_at plan (suc k)) has.0 t has.1 ∙ ap Some has.2)
-
-      -- a source of round k that is taken after round k + 1 was filled by it
-      filled : (m : Shift) → Contains (round_at plan k) m → IsTaken (At input plan (suc k)) m.from → IsAmongTargets input c (round_at plan (suc k)) (slot_of input m.from)
-      filled m has (item, at) = ⊎_elim
-          (λ last. (last.0, has_among last.0 last.1, ap (λ (p : Spot). slot_of input p) (in_some last.0.to m.from (sym last.3 ∙ at))))
-          (λ stayed. absurd ((source_facts input valid plan runs k m.from most (any_contains (λ (t : Shift). t.from ≡ m.from) (round_at plan k) m has refl)).1 (item, sym stayed.1 ∙ at)))
-          (moved_cases (At input plan k) (round_at plan (suc k)) item)
-
-      pub from_copied : IsSoundAfter asked input plan digest contents s.reads k → IsCopied input plan contents s.reads k → IsSettled s → Tells (IsJobCell input plan) s.reads
-          → IsUnderway asked input plan digest contents s k e c
-      from_copied sound copied settled tells = record {
-        sound = sound;
-        copied = λ m among. All-contains (λ (t : Shift). s.reads (slot_of input t.to) ≡ Some (contents t.item.0)) (round_at plan (suc k)) m copied.targets (among_has c (round_at plan (suc k)) m among);
-        erased = λ m among out. All-contains (λ (t : Shift). (IsTaken (At input plan (suc k)) t.from → ⊥) → s.reads (slot_of input t.from) ≡ Some zeros) (round_at plan k) m copied.sources
-            (among_has e (round_at plan k) m among) (λ taken. out (filled m (among_has e (round_at plan k) m among) taken));
-        settled = λ image left. same_wider NoCell (IsLoose input plan k e c) (λ cell nothing. absurd nothing) s.reads image (settled image left);
-        landed = none;
-        tells = tells;
-      }
 
 -- a shift's two slots differ
 pub copy_apart : (input : InputLists) (valid : IsInput input) (plan : List (List Shift)) (runs : Runs input plan) (k : ℕ) (lt : k < length plan) (s : Shift) (place : ℕ) → slice_get (round_at plan (suc k)) place ≡ Some s → slot_of input s.from ≡ slot_of input s.to → ⊥

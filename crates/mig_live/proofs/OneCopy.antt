@@ -3,7 +3,7 @@ use Rattle.mig_live.proofs.Common.{All-contains, Cell, Changes, Contains, Contai
 use Rattle.mig_live.proofs.Common.{NoCell, None, Ok, Option, Some, State, [], ap, arith, began, changes_then, changes_wider, cond-true, ended, ends_are_quiet, false, false≢true, flights, flights_began}
 use Rattle.mig_live.proofs.Common.{flights_same, here, in_flight, inl, inr, is_some, length_permutation, map, named, nil_from_length, no_target, option_map, refl, same_image, subst, suc, sym, take}
 use Rattle.mig_live.proofs.Common.{target_left, target_one, target_permuted, true, zero, ℕ, ⊎_elim, ◌++◌, ◌∙◌, ◌∷◌, ◌≡◌, ◌≢◌, ◌⊎◌}
-use Rattle.mig_live.proofs.ActionLaws.{take_nothing}
+use Rattle.mig_live.proofs.Common.{take_all}
 
 -- where events aren't told, none is
 abbrev Untold : Option (List Event) → Option (List Event) → Type 0
@@ -35,13 +35,12 @@ other_events P Q a b old new untold change = record {
 }
 
 module _ (f : Flight) (old mid : State) where
-  abbrev Target : Cell → Type 0
-  Target cell = cell ≡ f.to
-
   -- what was begun is a part of both events
   pub begun_part : (n : ℕ) → Changes (λ c. c ≡ f.to) (λ c. c ≡ f.to) (take n (began f ∷ [])) old mid → (m : ℕ) × Changes (λ c. c ≡ f.to) (λ c. c ≡ f.to) (take m (began f ∷ ended f ∷ [])) old mid
   begun_part zero change = (0, change)
-  begun_part (suc n) change = (1, subst (λ (l : List Event). Changes (λ c. c ≡ f.to) (λ c. c ≡ f.to) (began f ∷ l) old mid) (take_nothing n) change)
+  begun_part (suc n) change =
+      let none : take {A = Event} n [] ≡ [] = take_all n [] (omega arith) in
+      (1, subst (λ (l : List Event). Changes (λ c. c ≡ f.to) (λ c. c ≡ f.to) (began f ∷ l) old mid) none change)
 
   module _ (none : flights old ≡ []) (begun : Changes (λ c. c ≡ f.to) (λ c. c ≡ f.to) (began f ∷ []) old mid) where
     cases : ((flights mid ≡ f ∷ []) × (is_some mid.events ≡ true)) ⊎ Untold old.events mid.events
@@ -57,44 +56,34 @@ module _ (f : Flight) (old mid : State) where
         (λ cell out. absurd out) (map ended these) mid new ends.change)
 
     module _ (apart : f.from ≢ f.to) (copied : ¬ IsMoving mid f.to → IsCopy (old.reads f.from) (mid.reads f.to)) (new : State) where
-      -- where events aren't told
-      module _ (nothing : flights mid ≡ []) (these : List Flight) (ends : Ends these mid new) where
-        quiet_landed : flights new ≡ []
-        quiet_landed = flights_same mid new (ends_are_quiet mid new nothing these ends).events ∙ nothing
-
-        quiet_copied : IsCopy (old.reads f.from) (new.reads f.to)
-        quiet_copied = subst (λ (o : Option (List ℕ)). IsCopy (old.reads f.from) o) (λ i. same_image mid.reads new.reads (ends_are_quiet mid new nothing these ends).told i f.to)
-            (copied (λ moving. no_target (flights mid) f.to nothing moving.1))
-
-      -- where they are
-      module _ (one : flights mid ≡ f ∷ []) (g : Flight) (ends : Ends (g ∷ []) mid new) where
-        others : IsPermutation (f ∷ []) (g ∷ flights new)
-        others = subst (λ (l : List Flight). IsPermutation l (g ∷ flights new)) one ends.others
-
-        last_landed : flights new ≡ []
-        last_landed = nil_from_length (flights new) (let long = length_permutation (f ∷ []) (g ∷ flights new) others in omega arith)
-
-        it : g ≡ f
-        it = one_of f g (Contains-permutation (g ∷ flights new) (f ∷ []) g (IsPermutation-sym _ _ others) (here g (flights new)))
-
-        last_copied : IsCopy (old.reads f.from) (new.reads f.to)
-        last_copied = subst (λ (o : Option (List ℕ)). IsCopy o (new.reads f.to)) (begun.told.same f.from apart)
-            (subst (λ (h : Flight). IsCopy (mid.reads h.from) (new.reads h.to)) it (All-contains (λ (c : Flight). IsCopy (mid.reads c.from) (new.reads c.to)) (g ∷ []) g ends.copied (here g [])))
-
-        last_made : Changes (λ c. c ≡ f.to) (λ c. c ≡ f.to) (began f ∷ ended f ∷ []) old new
-        last_made = subst (λ (h : Flight). Changes (λ c. c ≡ f.to) (λ c. c ≡ f.to) (began f ∷ ended h ∷ []) old new) it (change_ended new (g ∷ []) ends)
-
       pub record HasLanded : Type 0 where
         pub landed : flights new ≡ []
         pub holds : IsCopy (old.reads f.from) (new.reads f.to)
         pub made : Changes (λ c. c ≡ f.to) (λ c. c ≡ f.to) (began f ∷ ended f ∷ []) old new
 
+      -- where events aren't told
       untold_landed : Untold old.events mid.events → (these : List Flight) → Ends these mid new → HasLanded
-      untold_landed untold these ends = record {
-        landed = quiet_landed untold.0 these ends;
-        holds = quiet_copied untold.0 these ends;
-        made = other_events (λ c. c ≡ f.to) (λ c. c ≡ f.to) (began f ∷ map ended these) (began f ∷ ended f ∷ []) old new untold.2 (change_ended new these ends);
-      }
+      untold_landed untold these ends =
+          let quiet = ends_are_quiet mid new untold.0 these ends in record {
+            landed = flights_same mid new quiet.events ∙ untold.0;
+            holds = subst (λ (o : Option (List ℕ)). IsCopy (old.reads f.from) o) (λ i. same_image mid.reads new.reads quiet.told i f.to)
+                (copied (λ moving. no_target (flights mid) f.to untold.0 moving.1));
+            made = other_events (λ c. c ≡ f.to) (λ c. c ≡ f.to) (began f ∷ map ended these) (began f ∷ ended f ∷ []) old new untold.2
+                (change_ended new these ends);
+          }
+
+      -- where they are
+      told_landed : flights mid ≡ f ∷ [] → (g : Flight) → Ends (g ∷ []) mid new → HasLanded
+      told_landed one g ends =
+          let others = subst (λ (l : List Flight). IsPermutation l (g ∷ flights new)) one ends.others in
+          let it = one_of f g (Contains-permutation (g ∷ flights new) (f ∷ []) g (IsPermutation-sym _ _ others) (here g (flights new))) in record {
+            landed = nil_from_length (flights new) (let long = length_permutation (f ∷ []) (g ∷ flights new) others in omega arith);
+            holds = subst (λ (o : Option (List ℕ)). IsCopy o (new.reads f.to)) (begun.told.same f.from apart)
+                (subst (λ (h : Flight). IsCopy (mid.reads h.from) (new.reads h.to)) it
+                (All-contains (λ (c : Flight). IsCopy (mid.reads c.from) (new.reads c.to)) (g ∷ []) g ends.copied (here g [])));
+            made = subst (λ (h : Flight). Changes (λ c. c ≡ f.to) (λ c. c ≡ f.to) (began f ∷ ended h ∷ []) old new) it
+                (change_ended new (g ∷ []) ends);
+          }
 
       -- what an answer of `ended` gives
       pub landed_ended : (E : Type 0) (answer : Option (Cell × Cell)) → Ends (named {E = E} mid (Ok answer)) mid new → IfNone answer (flights mid ≡ []) → HasLanded
@@ -109,7 +98,5 @@ module _ (f : Flight) (old mid : State) where
           g = record { from = from; to = to }
 
           by : ((flights mid ≡ f ∷ []) × (is_some mid.events ≡ true)) ⊎ Untold old.events mid.events → HasLanded
-          by (inl told) =
-              let this = subst (λ (l : List Flight). Ends l mid new) (cond-true (is_some mid.events) (g ∷ []) [] told.1) ends in
-              record { landed = last_landed told.0 g this; holds = last_copied told.0 g this; made = last_made told.0 g this }
+          by (inl told) = told_landed told.0 g (subst (λ (l : List Flight). Ends l mid new) (cond-true (is_some mid.events) (g ∷ []) [] told.1) ends)
           by (inr untold) = untold_landed untold _ ends

@@ -13,7 +13,3 @@ pub at_next : (input : InputLists) (plan : List (List Shift)) (k place : ℕ) (f
     → slice_get (flights_of input (round_at plan (k + 1))) place ≡ Some f → slice_get (flights_of input (round_at plan (suc k))) place ≡ Some f
 at_next input plan k place f =
     subst (λ (n : ℕ). slice_get (flights_of input (round_at plan n)) place ≡ Some f) (let e : k + 1 ≡ suc k = omega arith in e)
-
-pub shift_next : (input : InputLists) (plan : List (List Shift)) (k place : ℕ) (f : Flight) → slice_get (flights_of input (round_at plan (k + 1))) place ≡ Some f
-    → (s : Shift) × (slice_get (round_at plan (suc k)) place ≡ Some s) × (f.from ≡ slot_of input s.from) × (f.to ≡ slot_of input s.to)
-shift_next input plan k place f at = shift_of input (round_at plan (suc k)) place f (at_next input plan k place f at)

@@ -3,6 +3,7 @@ use Rattle.mig_live.proofs.Common.{ArePut, ArePutUpTo, AreReplies, Bool, Content
 use Rattle.mig_live.proofs.Common.{State, Step, Task, [], all_reads, all_steps, ap, append-nil, append_assoc, arith, codes, encode_lower, flat_map-append}
 use Rattle.mig_live.proofs.Common.{get_or, inl, inr, item_name, length, map, map-append, named, puts_nothing, refl, replies, reply_line, sha256, steps_of, subst, sym, take, take_more, text_of_lines}
 use Rattle.mig_live.proofs.Common.{then_extends, words, ℕ, ◌++◌, ◌+◌, ◌<◌, ◌∙◌, ◌∷◌, ◌≡◌, ◌≤◌}
+use Rattle.std.proofs.lemmas.Option.{IfSome_then}
 use Rattle.mig_live.specs.Replies.{IsServeFault}
 use Rattle.mig_live.specs.declared.serving.ServeFault.TheVariants as serve_fault
 
@@ -48,26 +49,13 @@ module _ (input : InputLists) (contents : Contents) where
       ap (λ (n : List ℕ). text_of_lines (words (n ∷ encode_lower digest ∷ []) ∷ [])) named
       ∙ ap (λ (d : List ℕ). text_of_lines (words (item_name input item.0 ∷ encode_lower d ∷ []) ∷ [])) (is ∙ ap sha256 holds)
 
--- Before an order nothing is put, and steps are replied nothing
-
-pub store_failed : (live : Session) (store : State) (x : SinkState) → ArePut live store [] x x
-store_failed live store x = ([], λ asked contents at. refl, extends_nothing x)
-
 -- a part of a reply, after nothing
-if_some_weaker : {A : Type 0} {P Q : A → Type 0} (o : Option A) → ((a : A) → P a → Q a) → IfSome o P → IfSome o Q
-if_some_weaker None gives h = tt
-if_some_weaker (Some a) gives h = gives a h
-
 pub part_put : (live : Session) (store : State) (item : ItemId) (more : List ℕ) (x y : SinkState) → AreReplies live store (Read item ∷ []) more → ExtendsInPart more x y
     → ArePutUpTo live store [] (Read item) x y serve_fault.Sink
-part_put live store item more x y are part = (
-  item,
-  refl,
-  ([], more, λ asked contents at. refl, are, if_some_weaker x.held (λ held h. subst (λ (l : List ℕ). ExtendsByPrefix more l y.held) (sym (append-nil held)) h) part),
-)
-
-pub steps_served : (live : Session) (store : State) (order : Order) (count : ℕ) (x : SinkState) → order ≡ Step count → ArePut live store (order ∷ []) x x
-steps_served live store order count x is = subst (λ (o : Order). ArePut live store (o ∷ []) x x) (sym is) ([], λ asked contents at. refl, extends_nothing x)
+part_put live store item more x y are part =
+    let held : IfSome x.held (λ h. ExtendsByPrefix more (h ++ []) y.held) =
+    IfSome_then x.held part (λ h is. subst (λ (l : List ℕ). ExtendsByPrefix more l y.held) (sym (append-nil h)) is) in
+    (item, refl, ([], more, λ asked contents at. refl, are, held))
 
 -- Orders are carried out, and then one more
 module _ (live mid : Session) (same : mid.task ≡ live.task) (old now : State) (goes : (asked : Bool) (contents : Contents) → InStep asked live contents old → InStep asked mid contents now)
@@ -85,11 +73,10 @@ module _ (live mid : Session) (same : mid.task ≡ live.task) (old now : State) 
         ∙ sym (replies_append input contents (take i orders) part)
         ∙ ap (replies input contents) is
 
-  one_more : take i orders ++ (this ∷ []) ≡ take (i + 1) orders
-  one_more = sym (take_more orders i d lt)
-
   pub served_more : ArePut mid now (this ∷ []) y z → ArePut live old (take (i + 1) orders) x z
-  served_more (more, are, put) = (sofar.0 ++ more, both (this ∷ []) more are (take (i + 1) orders) one_more, then_extends sofar.0 more x y z sofar.2 put)
+  served_more (more, are, put) =
+      let all = both (this ∷ []) more are (take (i + 1) orders) (sym (take_more orders i d lt)) in
+      (sofar.0 ++ more, all, then_extends sofar.0 more x y z sofar.2 put)
 
   -- or a fault comes at it
   none_more : take i orders ++ [] ≡ take i orders

@@ -1,8 +1,10 @@
 -- The pieces of a script's text, and where it goes wrong.
-use Rattle.mig_live.proofs.Common.{All-push, AllByRecursion, FitsAlong, InputLists, IsInput, IsOrder, IsScriptError, IsStopAt, Lacks, Lacks-decimal, Lacks-words, List, MAX_FILE_BYTES, MAX_ORDERS}
-use Rattle.mig_live.proofs.Common.{MatchOption, None, Option, Order, Over, Piece, Read, ScriptError, ScriptLine, ScriptNext, ScriptPlace, ScriptText, Some, Step, Stops, WereRead, [], ap}
-use Rattle.mig_live.proofs.Common.{append_assoc, arith, codes, decimal, decimal_injective, get_or, inl, inr, item_name, lacks_test, length, length-append, length-decimal-le, length-map, map}
-use Rattle.mig_live.proofs.Common.{map-append, order_line, order_words, pieces, recursion_from_All, refl, subst, suc, sym, text_of_lines, zero, ℕ, ◌*◌, ◌++◌, ◌+◌, ◌<◌, ◌∙◌, ◌∷◌, ◌≡◌, ◌≢◌, ◌≤◌}
+use Rattle.mig_live.proofs.Common.{AllByRecursion, FitsAlong, InputLists, IsInput, IsOrder, IsScriptError, IsStopAt, Lacks, Lacks-decimal}
+use Rattle.mig_live.proofs.Common.{Lacks-words, List, MAX_FILE_BYTES, MAX_ORDERS, MatchOption, None, Option, Order, Over, Piece, Read, ScriptError}
+use Rattle.mig_live.proofs.Common.{ScriptLine, ScriptNext, ScriptPlace, ScriptText, Some, Step, Stops, WereRead, [], ap, arith, codes, decimal}
+use Rattle.mig_live.proofs.Common.{decimal_injective, get_or, inl, inr, item_name, lacks_test, length, length-append, length-decimal-le, length-map}
+use Rattle.mig_live.proofs.Common.{map, order_line, order_words, pieces, recursion_from_All, refl, subst, suc, sym, text_of_lines, zero, ℕ, ◌*◌, ◌++◌}
+use Rattle.mig_live.proofs.Common.{◌+◌, ◌<◌, ◌∙◌, ◌∷◌, ◌≡◌, ◌≢◌, ◌≤◌}
 use Rattle.mig_base.proofs.Separators.{same_lines, same_words}
 use Rattle.mig_base.proofs.Spelling.{item_lacks, same_place}
 use Rattle.mig_live.specs.declared.scripts.ScriptError.TheVariants as script_error
@@ -154,16 +156,6 @@ module _ (input : InputLists) where
 
   pub none_read : (text : List (List ℕ)) → WereRead input text [] text
   none_read text = record { few = omega arith; fit = λ i d lt. absurd (omega (arith, lt)); cut = refl }
-
-  pub one_read : (text : List (List ℕ)) (orders : List Order) (piece : List ℕ) (rest : List (List ℕ)) (order : Order) → WereRead input text orders (piece ∷ rest) → length orders ≢ MAX_ORDERS
-      → IsOrder input order → piece ≡ order_line input order → WereRead input text (orders ++ order ∷ []) rest
-  one_read text orders piece rest order read more fits is = record {
-    few = omega (arith, read.few, more, length-append orders (order ∷ []));
-    fit = All-push (IsOrder input) orders order read.fit fits;
-    cut = read.cut ∙ ap (λ (p : List ℕ). map (order_line input) orders ++ p ∷ rest) is
-        ∙ sym (append_assoc (map (order_line input) orders) (order_line input order ∷ []) rest)
-        ∙ ap (λ (l : List (List ℕ)). l ++ rest) (sym (map-append (order_line input) orders (order ∷ [])));
-  }
 
 -- The whole text
 

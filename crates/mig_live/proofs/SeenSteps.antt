@@ -168,10 +168,8 @@ module _ (task : Task) (is : IsTask task) (item : ℕ) (range : item < length ta
       → IsLacked image (At task.input task.plan k item) → ⊥
   told_there k most image told lacks = by (image itself) told (subst (IsLacked image) (stays k most) lacks)
     where
-      name : List ℕ
-      name = item_name task.input item
-
-      by : (o : Option (List ℕ)) → IsSomeAnd o (HasHeader name) → IfSome o (λ bytes. ¬ HasHeader name bytes) → ⊥
+      by : (o : Option (List ℕ)) → IsSomeAnd o (HasHeader (item_name task.input item)) → IfSome o
+          (λ bytes. ¬ HasHeader (item_name task.input item) bytes) → ⊥
       by None holds lack = holds
       by (Some bytes) holds lack = lack holds
 

@@ -43,6 +43,13 @@ module _ (task : Task) (marked left done : ℕ) (sum : done + left ≡ round_siz
     | inr past ↦ absurd (omega (arith, sum, full, some, steps_last task.plan marked past, shifts_past task.plan marked past))
   ]
 
+  -- what a session keeps
+  pub kept_mark : marked < length task.plan → done ≡ steps_in task.plan marked
+      → 0 + (left - 1) ≡ round_size task.plan (marked + 1) + steps_after task.plan (marked + 1)
+  kept_mark lt full =
+      let next : suc marked ≡ marked + 1 = omega arith in
+      omega (arith, sum, full, ap (round_size task.plan) next, steps_more task.plan marked lt)
+
   -- the steps that are left
   pub left_here : (live : Session) → live ≡ session → (p : ℕ) → done ≡ p → actions_left live ≡ drop p (actions_since task marked)
   left_here live it p here = ap actions_left it ∙ ap (λ (n : ℕ). drop n (actions_since task marked)) (done_is ∙ here)
@@ -69,20 +76,10 @@ module _ (task : Task) (marked left done : ℕ) (sum : done + left ≡ round_siz
 
       pub mark_step : marked < length task.plan → p ≡ steps_in task.plan marked → ((asked : Bool) (contents : Contents) → IsAtStep asked task.input task.plan task.digest contents old marked p → IsAtStep asked task.input task.plan task.digest contents new (marked + 1) 0)
           → (asked : Bool) (contents : Contents) → InStep asked live contents old → InStep asked (record { task = task; marked = marked + 1; left = left - 1 }) contents new
-      mark_step lt full gives asked contents at = subst (IsAtStep asked task.input task.plan task.digest contents new (marked + 1)) (let e : 0 ≡ round_size task.plan (marked + 1) + steps_after task.plan (marked + 1) - (left - 1) = omega (arith, next) in e)
-          (gives asked contents (before_step asked contents at))
-        where
-          suc_is : round_size task.plan (suc marked) ≡ round_size task.plan (marked + 1)
-          suc_is = ap (round_size task.plan) (let e : suc marked ≡ marked + 1 = omega arith in e)
-
-          next : left ≡ round_size task.plan (marked + 1) + steps_after task.plan (marked + 1) + 1
-          next = omega (arith, sum, here, full, suc_is, steps_more task.plan marked lt)
-
-  -- what a session keeps
-  pub kept_mark : marked < length task.plan → done ≡ steps_in task.plan marked → 0 + (left - 1) ≡ round_size task.plan (marked + 1) + steps_after task.plan (marked + 1)
-  kept_mark lt full =
-      let suc_is : round_size task.plan (suc marked) ≡ round_size task.plan (marked + 1) = ap (round_size task.plan) (let e : suc marked ≡ marked + 1 = omega arith in e) in
-      omega (arith, sum, full, suc_is, steps_more task.plan marked lt)
+      mark_step lt full gives asked contents at =
+          let next = kept_mark lt (here ∙ full) in
+          let e : 0 ≡ round_size task.plan (marked + 1) + steps_after task.plan (marked + 1) - (left - 1) = omega (arith, next) in
+          subst (IsAtStep asked task.input task.plan task.digest contents new (marked + 1)) e (gives asked contents (before_step asked contents at))
 
 -- A step is the first of those that are left
 module _ (task : Task) (marked left done : ℕ) (sum : done + left ≡ round_size task.plan marked + steps_after task.plan marked) (live : Session) (it : live ≡ record { task = task; marked = marked; left = left })
@@ -117,25 +114,14 @@ module _ (task : Task) (is : IsTask task) (marked left : ℕ) (count : left ≡ 
       done : ℕ
       done = round_size task.plan marked + steps_after task.plan marked - left
 
--- what every session keeps
-pub keeps_session : (task : Task) (marked left done : ℕ) → marked ≤ length task.plan → done + left ≡ round_size task.plan marked + steps_after task.plan marked → done ≤ steps_in task.plan marked
-    → (live : Session) → live ≡ record { task = task; marked = marked; left = left } → IsSession live
-keeps_session task marked left done most sum high live it = subst IsSession (sym it) (record { most = most; low = omega (arith, sum); high = omega (arith, sum, high) })
-
-pub task_of : (task : Task) (marked left : ℕ) (live : Session) → live ≡ record { task = task; marked = marked; left = left } → IsTask task → IsTask live.task
-task_of task marked left live it is = subst (λ (l : Session). IsTask l.task) (sym it) is
-
 -- The end
 
 module _ (live : Session) (valid : IsInput live.task.input) (runs : Runs live.task.input live.task.plan) (keeps : IsSession live) (none : live.left ≡ 0) (asked : Bool) (contents : Contents) (s : State) (at : InStep asked live contents s) where
   all_marked : live.marked ≡ length live.task.plan
   all_marked = elim (cases_lt live.marked (length live.task.plan)) [
-    | inl lt ↦ absurd (let high = keeps.high in omega (arith, high, none, suc_is, steps_more live.task.plan live.marked lt))
+    | inl lt ↦ absurd (let high = keeps.high in omega (arith, high, none, steps_next live.task.plan live.marked lt))
     | inr past ↦ (let most = keeps.most in omega arith)
   ]
-    where
-      suc_is : round_size live.task.plan (suc live.marked) ≡ round_size live.task.plan (live.marked + 1)
-      suc_is = ap (round_size live.task.plan) (let e : suc live.marked ≡ live.marked + 1 = omega arith in e)
 
   last_full : steps_in live.task.plan live.marked ≤ done_in live
   last_full = omega (arith, none, steps_last live.task.plan live.marked (omega (arith, all_marked)), shifts_past live.task.plan live.marked (omega (arith, all_marked)))

@@ -1,24 +1,22 @@
 -- How many steps there are.
-use Rattle.mig_live.proofs.Common.{List, Shift, [], ap, arith, cases_lt, drop, false, inl, inr, length, length-append, marks_by, nat_lt, nat_tests, refl, round_size, shifts_of, steps_after}
-use Rattle.mig_live.proofs.Common.{subst, suc, sum_by, sum_by-cons, true, zero, ℕ, ◌*◌, ◌++◌, ◌+◌, ◌-◌, ◌<◌, ◌∷◌, ◌≡◌, ◌≤◌}
+use Rattle.mig_live.proofs.Common.{List, Shift, [], arith, cases_lt, drop, inl, inr, length, length-append, marks_by, refl, round_size, shifts_of}
+use Rattle.mig_live.proofs.Common.{steps_after, subst, suc, sum_by, sum_by-cons, zero, ℕ, ◌*◌, ◌++◌, ◌+◌, ◌-◌, ◌<◌, ◌∷◌, ◌≡◌, ◌≤◌}
+use Rattle.std.proofs.lemmas.Bool.{le-ltb, lt-ltb}
 
-abbrev all_steps : List (List Shift) → ℕ
-all_steps plan = sum_by (λ shifts. 2 * length shifts + 2) plan
+abbrev pub steps_of_rounds : List (List Shift) → ℕ
+steps_of_rounds plan = sum_by (λ shifts. 2 * length shifts + 2) plan
 
-first_steps : (r : List Shift) (rs : List (List Shift)) → all_steps (r ∷ rs) ≡ 2 * length r + 2 + all_steps rs
+pub first_steps : (r : List Shift) (rs : List (List Shift)) → steps_of_rounds (r ∷ rs) ≡ 2 * length r + 2 + steps_of_rounds rs
 first_steps r rs = sum_by-cons (λ (shifts : List Shift). 2 * length shifts + 2) r rs
-
-steps_first : (r : List Shift) (rs : List (List Shift)) → steps_after (r ∷ rs) zero ≡ 2 * round_size (r ∷ rs) (suc zero) + 2 + steps_after (r ∷ rs) (suc zero)
-steps_first r rs =
-    let a : steps_after (r ∷ rs) zero ≡ all_steps (r ∷ rs) + 1 = refl in
-    let b : steps_after (r ∷ rs) (suc zero) ≡ all_steps rs + 1 = refl in
-    let l : round_size (r ∷ rs) (suc zero) ≡ length r = refl in
-    omega (arith, a, b, l, first_steps r rs)
 
 -- a round more
 pub steps_next : (plan : List (List Shift)) (k : ℕ) → k < length plan → steps_after plan k ≡ 2 * round_size plan (suc k) + 2 + steps_after plan (suc k)
 steps_next [] k lt = absurd (omega arith)
-steps_next (r ∷ rs) zero lt = omega (arith, steps_first r rs)
+steps_next (r ∷ rs) zero lt =
+    let a : steps_after (r ∷ rs) zero ≡ steps_of_rounds (r ∷ rs) + 1 = refl in
+    let b : steps_after (r ∷ rs) (suc zero) ≡ steps_of_rounds rs + 1 = refl in
+    let l : round_size (r ∷ rs) (suc zero) ≡ length r = refl in
+    omega (arith, a, b, l, first_steps r rs)
 steps_next (r ∷ rs) (suc k) lt = steps_next rs k (omega arith)
 
 -- after the last round
@@ -27,10 +25,6 @@ steps_last [] zero le = refl
 steps_last [] (suc k) le = refl
 steps_last (r ∷ rs) zero le = absurd (omega arith)
 steps_last (r ∷ rs) (suc k) le = steps_last rs k (omega arith)
-
--- a step is left
-pub steps_some : (plan : List (List Shift)) (k : ℕ) → 1 ≤ steps_after plan k
-steps_some plan k = omega arith
 
 -- a round past the last has no shift
 pub shifts_past : (plan : List (List Shift)) (k : ℕ) → length plan ≤ k → round_size plan (suc k) ≡ 0
@@ -42,15 +36,13 @@ pub steps_few : (plan : List (List Shift)) (k : ℕ) → steps_after plan k ≤ 
 steps_few [] zero = omega arith
 steps_few [] (suc k) = omega arith
 steps_few (r ∷ rs) zero =
-    let a : steps_after (r ∷ rs) zero ≡ all_steps (r ∷ rs) + 1 = refl in
-    let b : steps_after rs zero ≡ all_steps rs + 1 = refl in
-    let l : shifts_of (r ∷ rs) ≡ r ++ shifts_of rs = refl in
-    let n : length (shifts_of (r ∷ rs)) ≡ length (r ++ shifts_of rs) = ap (λ (xs : List Shift). length xs) l in
+    let a : steps_after (r ∷ rs) zero ≡ steps_of_rounds (r ∷ rs) + 1 = refl in
+    let b : steps_after rs zero ≡ steps_of_rounds rs + 1 = refl in
+    let n : length (shifts_of (r ∷ rs)) ≡ length (r ++ shifts_of rs) = refl in
     omega (arith, a, b, n, first_steps r rs, length-append r (shifts_of rs), steps_few rs zero)
 steps_few (r ∷ rs) (suc k) =
     let a : steps_after (r ∷ rs) (suc k) ≡ steps_after rs k = refl in
-    let l : shifts_of (r ∷ rs) ≡ r ++ shifts_of rs = refl in
-    let n : length (shifts_of (r ∷ rs)) ≡ length (r ++ shifts_of rs) = ap (λ (xs : List Shift). length xs) l in
+    let n : length (shifts_of (r ∷ rs)) ≡ length (r ++ shifts_of rs) = refl in
     omega (a, n, arith, length-append r (shifts_of rs), steps_few rs k)
 
 pub steps_more : (plan : List (List Shift)) (k : ℕ) → k < length plan → steps_after plan k ≡ 2 * round_size plan (k + 1) + 2 + steps_after plan (k + 1)
@@ -83,12 +75,6 @@ steps_fall plan a (suc b) le most = elim (cases_lt b a) [
 
 -- Marks
 
-is_less : (a b : ℕ) → a < b → nat_lt a b ≡ true
-is_less a b h = grind (arith, nat_tests)
-
-not_less : (a b : ℕ) → b ≤ a → nat_lt a b ≡ false
-not_less a b h = grind (arith, nat_tests)
-
 -- after the last round there is no mark
 pub marks_none : (plan : List (List Shift)) (k steps : ℕ) → length plan ≤ k → marks_by (drop k plan) steps ≡ 0
 marks_none [] zero steps le = refl
@@ -99,12 +85,12 @@ marks_none (r ∷ rs) (suc k) steps le = marks_none rs k steps (omega arith)
 -- the next round isn't marked
 pub marks_before : (plan : List (List Shift)) (k steps : ℕ) → k < length plan → steps < round_size plan (suc k) + 2 → marks_by (drop k plan) steps ≡ 0
 marks_before [] k steps lt few = absurd (omega arith)
-marks_before (r ∷ rs) zero steps lt few = rw (is_less steps (length r + 2) few) refl
+marks_before (r ∷ rs) zero steps lt few = rw (lt-ltb steps (length r + 2) few) refl
 marks_before (r ∷ rs) (suc k) steps lt few = marks_before rs k steps (omega arith) few
 
 -- or it is
 pub marks_after : (plan : List (List Shift)) (k steps : ℕ) → k < length plan → round_size plan (suc k) + 2 ≤ steps
     → marks_by (drop k plan) steps ≡ suc (marks_by (drop (suc k) plan) (steps - (2 * round_size plan (suc k) + 2)))
 marks_after [] k steps lt many = absurd (omega arith)
-marks_after (r ∷ rs) zero steps lt many = rw (not_less steps (length r + 2) many) refl
+marks_after (r ∷ rs) zero steps lt many = rw (le-ltb steps (length r + 2) many) refl
 marks_after (r ∷ rs) (suc k) steps lt many = marks_after rs k steps (omega arith) many

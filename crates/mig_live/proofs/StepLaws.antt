@@ -1,7 +1,8 @@
 -- The steps between two marks, by their number.
-use Rattle.mig_live.proofs.Common.{Bool, ChangesOnly, Contents, Err, HasDone, IfSome, IsAtStep, IsSettled, IsSound, IsState, IsTask, IsUnderway, LeavesOnly, Mark, NoCell, Ok, OnOk, Result, State}
-use Rattle.mig_live.proofs.Common.{Task, [], arith, flights, flights_same, length, quiet_leaves, round_size, same_image, steps_in, subst, suc, sym, ℕ, ◌+◌, ◌-◌, ◌<◌, ◌∙◌, ◌∷◌, ◌≡◌, ◌≤◌}
-use Rattle.mig_live.proofs.Middle.{past_sources, past_targets, way_settled, mark_leaves, mark_more, from_done, to_done}
+use Rattle.mig_live.proofs.Common.{Bool, ChangesOnly, Contents, Err, IfSome, IsAtStep, IsSettled, IsSound, IsState, IsTask, IsUnderway, LeavesOnly}
+use Rattle.mig_live.proofs.Common.{Mark, NoCell, Ok, OnOk, Result, State, Task, [], arith, flights_same, length, quiet_leaves, round_size, same_image}
+use Rattle.mig_live.proofs.Common.{steps_in, subst, suc, sym, ℕ, ◌+◌, ◌-◌, ◌<◌, ◌∙◌, ◌∷◌, ◌≡◌, ◌≤◌}
+use Rattle.mig_live.proofs.Middle.{past_sources, past_targets, way_settled, mark_leaves, mark_more}
 
 pub on_ok_both : {T E : Type 0} {P Q R : Type 0} (r : Result T E) → (P → Q → R) → OnOk r P → OnOk r Q → OnOk r R
 on_ok_both (Ok x) f p q = f p q
@@ -13,17 +14,6 @@ module _ (task : Task) (is : IsTask task) (k : ℕ) (most : k ≤ length task.pl
 
   abbrev pub AtStep : State → ℕ → Type 0
   AtStep s p = IsAtStep asked task.input task.plan task.digest contents s k p
-
-  -- the ends of the erasures
-  pub done_begins : (s : State) → flights s ≡ [] → HasDone asked task.input task.plan task.digest contents s k → AtStep s (round_size task.plan k)
-  done_begins s none done = record {
-    underway = subst (Way s (round_size task.plan k)) (let e : 0 ≡ round_size task.plan k - round_size task.plan k = omega arith in e) (from_done task.input is.valid task.plan is.runs task.digest contents k most asked s (round_size task.plan k) (omega arith) none done);
-    synced = λ high. absurd (omega arith);
-  }
-
-  pub erased_ends : (s : State) → AtStep s (round_size task.plan k) → HasDone asked task.input task.plan task.digest contents s k
-  erased_ends s at = to_done task.input is.valid task.plan is.runs task.digest contents k most asked s (round_size task.plan k) (omega arith)
-      (subst (Way s (round_size task.plan k)) (let e : round_size task.plan k - round_size task.plan k ≡ 0 = omega arith in e) at.underway)
 
   -- an erasure
   module _ (p : ℕ) (lt : p < round_size task.plan k) where
@@ -79,7 +69,3 @@ module _ (task : Task) (is : IsTask task) (k : ℕ) (most : k ≤ length task.pl
           (subst (λ (n : ℕ). IfSome (set.reads (Mark n)) (λ bytes. bytes ≡ 1 ∷ [])) next marked) settled);
       synced = λ high. settled;
     })
-
--- no step is done since mark k
-pub at_start : (task : Task) (asked : Bool) (contents : Contents) (s : State) (k : ℕ) → IsAtStep asked task.input task.plan task.digest contents s k 0 → IsUnderway asked task.input task.plan task.digest contents s k 0 0
-at_start task asked contents s k at = subst (IsUnderway asked task.input task.plan task.digest contents s k 0) (let e : 0 - round_size task.plan k ≡ 0 = omega arith in e) at.underway

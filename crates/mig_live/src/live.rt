@@ -57,6 +57,7 @@ impl<'a> Model for Live<'a> {
 }
 
 // How many steps there are once so many rounds are marked, and what the last of them left is erased.
+#[tactic(auto, using(crate::proofs::StepCounts::steps_more, crate::proofs::StepCounts::steps_few))]
 fn count_steps(job: &Job, marked: u32) -> u32
     requires { marked ≤ length job.now.plan }
     ensures { result ≡ steps_after job.now.plan marked }
@@ -248,7 +249,7 @@ impl<'a> Live<'a> {
         ensures { (asked : Bool) (contents : Contents) → InStep asked self.now contents (S.state store.now) → (image : Image) → (S.state store.now).may_leave image →
             IsSoundAfter asked self.now.task.input self.now.task.plan self.now.task.digest contents image self.now.marked }
     {
-        self.job.keeps_rules();
+        self.marks_follow_steps();
     }
 
     /// Where no step is left, the target is reached. The call does nothing.
@@ -256,6 +257,6 @@ impl<'a> Live<'a> {
         ensures reached { self.now.left ≡ 0 → (contents : Contents) → InStep true self.now contents (S.state store.now) → IsReached self.now.task.input self.now.task.plan self.now.task.digest contents (S.state store.now).reads }
         ensures settled { self.now.left ≡ 0 → (asked : Bool) (contents : Contents) → InStep asked self.now contents (S.state store.now) → IsSettled (S.state store.now) }
     {
-        self.job.keeps_rules();
+        self.marks_follow_steps();
     }
 }

@@ -3,10 +3,10 @@ ghost use Rattle.std.specs.Prelude.{◌≡◌, ◌≢◌, ◌⊎◌, ◌+◌, �
 ghost use Rattle.mig_base.specs.declared.limits.TheConstants.{MAX_FILE_BYTES};
 ghost use Rattle.mig_base.specs.Cells.{is_slot};
 ghost use Rattle.mig_base.specs.Flights.{began, ended};
-ghost use Rattle.mig_base.specs.Images.{IsCopy, NoCell};
+ghost use Rattle.mig_base.specs.Images.{IsCopy};
 ghost use Rattle.mig_base.specs.Layouts.{round_at};
 ghost use Rattle.mig_base.specs.Safety.{Contents, IsSound};
-ghost use Rattle.mig_base.specs.Stores.{State, flights, Changes, ChangesOnly, LeavesOnly, IsSettled, HasCause};
+ghost use Rattle.mig_base.specs.Stores.{State, flights, Changes, LeavesOnly, HasCause};
 ghost use Rattle.mig_base.specs.Tasks.{Task};
 ghost use Rattle.mig_mover.specs.Erasures.{AreAsked};
 ghost use Rattle.mig_live.specs.Actions.{MakesFirst, actions_after, actions_since};
@@ -80,17 +80,6 @@ fn copy_next<S: Store>(job: &Job, store: &mut S, k: u32, place: u32) -> Result<(
     copy_slot(store, &from, &to)
 }
 
-// Settles the copies of a round.
-fn settle<S: Store>(store: &mut S) -> Result<(), StoreFailed>
-    requires { flights (S.state store.old) ≡ [] }
-    ensures change { ChangesOnly NoCell (S.state store.old) (S.state store.new) }
-    ensures settled { OnOk result (IsSettled (S.state store.new)) }
-    ensures seen { Remembers NoCell (S.seen store.old) (S.seen store.new) }
-    ensures cause { HasCause (S.state store.old) (S.state store.new) result }
-{
-    store.sync()
-}
-
 /// How many shifts a round has; none where there is no such round. Rounds count from 1.
 pub(crate) fn shifts_of_round(job: &Job, round: u32) -> u32
     ensures count { result ≡ round_size job.now.plan round }
@@ -137,7 +126,7 @@ pub(crate) fn step_within<S: Store>(
     if p - erasures < copies {
         return copy_next(job, store, k, p - erasures);
     }
-    settle(store)
+    store.sync()
 }
 
 /// Sets the mark of the round after the first k, whose copies are settled.

@@ -1,12 +1,10 @@
 -- Each slot that a plan names was asked for, once each item that it shifts was where it is, and each named slot that is free.
-use Rattle.mig_mover.proofs.Common.{AreAsked, At, At-item, Cell, Contains, Contains-append_left, Contains-append_right, IfSome, IsFreeSlot, IsItemAsked, IsPlanSpot, IsShifted, IsSource}
-use Rattle.mig_mover.proofs.Common.{IsTaken, IsTarget, IsTask, List, Option, Shift, Some, Spot, Task, [], any_contains, ap, arith, at_target, cases_Bool, cases_eq, cases_lt, contains_any, eq-eqb}
-use Rattle.mig_mover.proofs.Common.{false, false≢true, get_or, in_some, inl, inr, is_of, key_false, key_true, leaves, length, list_any, list_any_at, moved_cases, no_round, option_map, refl, round_at}
-use Rattle.mig_mover.proofs.Common.{same_spot, shifts_of, slot_of, source_facts, stays_free, stays_taken, subst, suc, sym, target_facts, zero, ℕ, ⊎_elim, ◌<◌, ◌∙◌, ◌∷◌, ◌≡◌, ◌≤◌, ◌⊎◌}
-
--- the code finds each item that the plan shifts
-pub not_shifted : (plan : List (List Shift)) (item : ℕ) → list_any (is_of item) (shifts_of plan) ≡ false → IsShifted plan item → ⊥
-not_shifted plan item said any = false≢true (sym said ∙ list_any_at (is_of item) (shifts_of plan) any.0 any.1 any.2 (ap (is_of item) any.3 ∙ eq-eqb any.1.item.0 item any.4))
+use Rattle.mig_mover.proofs.Common.{AreAsked, At, At-item, Cell, Contains, Contains-append_left, Contains-append_right, IfSome, IsFreeSlot}
+use Rattle.mig_mover.proofs.Common.{IsItemAsked, IsPlanSpot, IsShifted, IsSource, IsTaken, IsTarget, IsTask, List, Option, Shift, Some, Spot, Task}
+use Rattle.mig_mover.proofs.Common.{[], any_contains, ap, arith, at_target, cases_Bool, cases_eq, cases_lt, contains_any, get_or, in_some, inl, inr}
+use Rattle.mig_mover.proofs.Common.{key_false, key_true, leaves, length, list_any, moved_cases, no_round, option_map, refl, round_at, same_spot}
+use Rattle.mig_mover.proofs.Common.{shifts_of, slot_of, source_facts, stays_free, stays_taken, subst, suc, sym, target_facts, zero, ℕ, ⊎_elim, ◌<◌}
+use Rattle.mig_mover.proofs.Common.{◌∙◌, ◌∷◌, ◌≡◌, ◌≤◌, ◌⊎◌}
 
 pub in_plan : (plan : List (List Shift)) (i : ℕ) (s : Shift) → i < length plan → Contains (get_or plan i []) s → Contains (shifts_of plan) s
 in_plan [] i s lt has = absurd (omega arith)

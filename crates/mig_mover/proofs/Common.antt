@@ -10,14 +10,15 @@ pub use Rattle.mig_base.proofs.Common.{get_or, get_or_default, get_or_from_slice
 pub use Rattle.mig_base.proofs.Common.{length-map-range_with_len, list_any, map, map-append, min, no_spot, not, prefix_len, range_with_len, refl, replicate, round_at, shifts_of}
 pub use Rattle.mig_base.proofs.Common.{slice_get, slice_get-get_or, slice_get_within, slot_of, subst, suc, sym, take, take-append-le, take-append_seam, true, zero, ℕ, ⊎_elim, ◌%◌}
 pub use Rattle.mig_base.proofs.Common.{◌++◌, ◌+◌, ◌-◌, ◌<◌, ◌∙◌, ◌∷◌, ◌≡◌, ◌≤◌, ◌⊎◌, eq-eqb}
-pub use Rattle.mig_base.proofs.Landing.{ends_are_quiet, flights_same, no_target, target_left, target_permuted}
+pub use Rattle.mig_base.proofs.Landing.{flights_same, no_target, target_left, target_permuted}
 pub use Rattle.mig_base.proofs.Listed.{at_map}
 pub use Rattle.mig_base.proofs.MarkCounts.{count_idle, count_is, counted}
 pub use Rattle.mig_base.proofs.Rounds.{spot_disk, there, to_disk, any_contains, at_target, contains_any, in_some, leaves, moved_cases}
 pub use Rattle.mig_base.proofs.SafetyLaws.{marking, other_bytes, slot_apart, sound_after, unmarked, no_round, source_facts, target_facts}
-pub use Rattle.mig_base.proofs.StoreSteps.{changes_leave, changes_then, changes_wider, events_none, leaves_then, leaves_wider, quiet_leaves, same_image, same_then, same_wider}
-pub use Rattle.mig_base.proofs.StoreSteps.{settled_change, tells_kept, told_is, told_kept}
-pub use Rattle.mig_base.specs.Arrivals.{AreFreeZeros, IsHaltSafe, IsHalted, IsPlanSpot}
+pub use Rattle.mig_base.proofs.StoreSteps.{changes_leave, changes_then, changes_wider, events_none, from_same, leaves_then, leaves_wider}
+pub use Rattle.mig_base.proofs.StoreSteps.{quiet_leaves, same_image, same_then, same_wider}
+pub use Rattle.mig_base.proofs.StoreSteps.{settled_change, shape_told, tells_kept, told_is, told_kept}
+pub use Rattle.mig_base.specs.Arrivals.{IsHaltSafe, IsNamed, IsPlanSpot}
 pub use Rattle.mig_base.specs.FaultCounts.{Rose}
 pub use Rattle.mig_base.specs.Images.{NoCell}
 pub use Rattle.mig_base.specs.JobCells.{IsFreeSlot, IsHaltCell, IsJournal, IsPlanSlot}
@@ -36,7 +37,8 @@ pub use Rattle.mig_base.specs.declared.ids.Spot.{Spot}
 pub use Rattle.mig_jobs.specs.JobTables.{free_targets, same_spot}
 pub use Rattle.mig_jobs.specs.Vacancies.{AreVacancies, IsVacant}
 pub use Rattle.mig_jobs.specs.declared.vacancies.Vacancy.{Vacancy}
-pub use Rattle.mig_journal.proofs.Steps.{look_quiet, on_ok_is, quiet_same, still_none, sync_same, then_quiet, then_step, then_sync}
+pub use Rattle.mig_journal.proofs.Steps.{err_any, failed_ground, failed_ground_after, look_quiet, on_ok_is, quiet_same, remembers_then}
+pub use Rattle.mig_journal.proofs.Steps.{remembers_wider, rose_from, still_none, sync_same, then_quiet, then_step, then_sync}
 pub use Rattle.mig_journal.specs.FreshJournals.{IsArming, IsFresh}
 pub use Rattle.mig_journal.specs.SeenJournals.{HasHead, is_running}
 pub use Rattle.mig_journal.specs.declared.looking.Seen.{Seen}
@@ -60,4 +62,9 @@ pub use Rattle.mig_base.proofs.LayoutSteps.{At-item}
 pub use Rattle.mig_base.specs.Layouts.{IsSource, IsTaken, IsTarget}
 pub use Rattle.mig_jobs.proofs.VacancyLaws.{key_false, key_true, stays_free, stays_taken}
 pub use Rattle.std.proofs.lemmas.List.Folds.{list_any_at}
-pub use Rattle.std.specs.Option.{option_map}
+pub use Rattle.std.specs.Option.{IsSomeAnd, option_map}
+pub use Rattle.mig_base.specs.Naming.{IsName}
+pub use Rattle.mig_jobs.proofs.JobRounds.{no_shift}
+pub use Rattle.mig_mover.specs.Holdings.{AreAlike, AreItemsKept, HoldNoOther, IsItemKept, IsItemSeen, IsKept, IsKeptMarked, IsSeen, IsShiftedName}
+pub use Rattle.mig_mover.specs.Holdings.{IsUnrefused, cell_at}
+pub use Rattle.mig_store.specs.Grounds.{HasGround, Holds, IsLast, IsNoSlot, IsSeenAtBoth, IsUncopiable, Lacks, Remembers, Sights, SlotsDiffer}

@@ -1,12 +1,14 @@
 -- The steps of a filling.
-use Rattle.mig_mover.proofs.Common.{All, AllWithin, At, BeginsRun, Cell, Changes, ChangesOnly, Contains, Contains-get_or, Ends, Event, Flight, Gate, HasContents, HasMade, IfSome, Image, IsFillFault}
-use Rattle.mig_mover.proofs.Common.{InputLists, IsFillFaultOn, IsFillRefusal, IsFillable, IsFirstTaken, IsInput, IsListedCell, IsRunning, IsSoundForAll, IsTargetOf, IsUnused, IsUsed, Lands, List}
-use Rattle.mig_mover.proofs.Common.{MoveFault, NoCell, NotStarted, NotThere, Occupied, OnOk, Option, OtherPlan, Result, SameBut, Settles, Shift, Some, Spot, Started, State, Store, Tells}
-use Rattle.mig_mover.proofs.Common.{WasFillable, [], ap, append-nil, arith, cases_eq, changes_then, changes_wider, false, flights, get_or, get_or_default, get_or_from_slice_get, idle_sound, inl}
-use Rattle.mig_mover.proofs.Common.{inr, is_armed, is_one, item_cell, item_name, length, made_contents, made_slot, no_spot, quiet_same, refl, slice_get, slice_get-get_or, slice_get_within}
-use Rattle.mig_mover.proofs.Common.{slot_apart, slot_of, spot_disk, still_none, subst, sym, sync_same, then_step, then_sync, told_is, ℕ, ◌+◌, ◌<◌, ◌∙◌, ◌≡◌, ◌≤◌, ◌⊎◌}
-use Rattle.mig_journal.proofs.Steps.{rose_from}
-use Rattle.mig_mover.proofs.Settling.{settles_land, settles_landed, settles_quiet}
+use Rattle.mig_mover.proofs.Common.{All, AllWithin, At, BeginsRun, Cell, Changes, ChangesOnly, Contains, Contains-get_or, Ends, Event, Flight, Gate}
+use Rattle.mig_mover.proofs.Common.{HasContents, HasMade, IfSome, Image, InputLists, IsFillFault, IsFillFaultOn, IsFillRefusal, IsFillable}
+use Rattle.mig_mover.proofs.Common.{IsFirstTaken, IsInput, IsListedCell, IsRunning, IsSoundForAll, IsTargetOf, IsUnused, IsUsed, Lands, List}
+use Rattle.mig_mover.proofs.Common.{MoveFault, NotStarted, NotThere, Occupied, OnOk, Option, OtherPlan, Result, SameBut, Settles, Shift, Some, Spot}
+use Rattle.mig_mover.proofs.Common.{Started, State, Store, Tells, WasFillable, [], ap, arith, false, flights, get_or, get_or_default}
+use Rattle.mig_mover.proofs.Common.{get_or_from_slice_get, idle_sound, inl, inr, is_armed, is_one, item_cell, item_name, length, made_contents}
+use Rattle.mig_mover.proofs.Common.{made_slot, no_spot, quiet_same, refl, rose_from, slice_get, slice_get-get_or, slice_get_within, slot_apart}
+use Rattle.mig_mover.proofs.Common.{slot_of, spot_disk, still_none, subst, sym, sync_same, then_sync, told_is, ℕ, ◌+◌, ◌<◌, ◌∙◌, ◌≡◌, ◌≤◌, ◌⊎◌}
+use Rattle.mig_mover.proofs.Settling.{landed_change, landed_more, settles_land, settles_landed, settles_quiet}
+use Rattle.mig_mover.proofs.TargetLaws.{next_item}
 
 -- Looking at listed spots
 
@@ -29,6 +31,8 @@ spot_known input valid spots is k lt = subst (λ (l : List Spot). (get_or l k no
 pub spot_listed : (input : InputLists) (spots : List Spot) → spots ≡ input.spots → (k : ℕ) → k < length spots → Contains input.spots (get_or spots k no_spot)
 spot_listed input spots is k lt = subst (λ (l : List Spot). Contains l (get_or spots k no_spot)) is (Contains-get_or spots k no_spot lt)
 
+pub ruleset listed_spots = (first_taken, none_taken, spot_known, spot_listed)
+
 -- Writing made slots
 
 abbrev pub IsMade : InputLists → Image → ℕ → Type 0
@@ -47,13 +51,10 @@ module _ (input : InputLists) (valid : IsInput input) (item : ℕ) (lt : item < 
 
   -- one item more is made
   pub made_more : (old new : Image) → SameBut (λ c. c ≡ item_cell input item) old new → ((k : ℕ) → k < item → IsMade input old k) → IsMade input new item → (k : ℕ) → k < item + 1 → IsMade input new k
-  made_more old new step before made k low = at (cases_eq k item)
-    where
-      at : (k ≡ item) ⊎ (k ≡ item → ⊥) → IsMade input new k
-      at (inl is) = subst (IsMade input new) (sym is) made
-      at (inr other) =
-          let less : k < item = omega arith in
-          subst (λ (o : Option (List ℕ)). IfSome o (λ slot. slot ≡ made_slot (item_name input k))) (sym (step.same (item_cell input k) (apart k less))) (before k less)
+  made_more old new step before made = next_item (IsMade input new) item
+      (λ k less. subst (λ (o : Option (List ℕ)). IfSome o (λ slot. slot ≡ made_slot (item_name input k)))
+      (sym (step.same (item_cell input k) (apart k less))) (before k less))
+      made
 
 -- What is sound once the slots are made
 
@@ -85,7 +86,7 @@ module _ (input : InputLists) (item : ℕ) (spots : List Spot) (spots_is : spots
 
 -- Beginning with a sync
 
-module _ (input : InputLists) (old mid new : State) where
+module _ (input : InputLists) {old mid : State} (new : State) where
   pub fault_more : Settles old mid → old.faults ≤ mid.faults → {R Q : Type 0} → (R → Q) → (fault : MoveFault) → IsFillFaultOn R input mid new fault → IsFillFault Q input old new fault
   fault_more settles later f Store (inl rose) = inl (rose_from later rose)
   fault_more settles later f Store (inr why) = inr (f why)
@@ -95,53 +96,26 @@ module _ (input : InputLists) (old mid new : State) where
   fault_more settles later f NotStarted is = absurd is.1
   fault_more settles later f (NotThere item) is = absurd is.1
 
-  abbrev pub Fills : State → Type 0
-  Fills last = (added : List Event) × BeginsRun (flights old) [] added × Changes (λ cell. IsTargetOf (flights old) cell ⊎ IsListedCell input cell) (IsListedCell input) added old last
+pub fillable_more : (input : InputLists) {old mid : State} → Settles old mid → IsFillable input mid.reads → WasFillable input old
+fillable_more input {old} {mid} settles fillable = (mid.reads, settles_landed old mid settles, fillable)
 
-  pub fills_landed : Lands old mid → Fills mid
-  fills_landed lands = (
-    lands.added,
-    lands.part,
-    changes_wider (λ cell. IsTargetOf (flights old) cell ⊎ IsListedCell input cell) (IsListedCell input) (IsTargetOf (flights old)) NoCell (λ cell any. inl any) (λ cell out. absurd out) lands.added old mid lands.change,
-  )
+-- copies that were in flight end, and listed cells are written
+abbrev pub Fills : InputLists → State → State → Type 0
+Fills input old new = (added : List Event) × BeginsRun (flights old) [] added
+    × Changes (λ cell. IsTargetOf (flights old) cell ⊎ IsListedCell input cell) (IsListedCell input) added old new
 
-  pub fills_more : Settles old mid → ChangesOnly (IsListedCell input) mid new → Fills new
-  fills_more settles change =
-      let P : Cell → Type 0 = λ cell. IsTargetOf (flights old) cell ⊎ IsListedCell input cell in
-      let lands = settles_land old mid settles in (
-        lands.added,
-        lands.part,
-        subst (λ (l : List Event). Changes P (IsListedCell input) l old new) (append-nil lands.added)
-            (changes_then P (IsListedCell input) lands.added [] old mid new
-            (changes_wider P (IsListedCell input) (IsTargetOf (flights old)) NoCell (λ cell any. inl any) (λ cell out. absurd out) lands.added old mid lands.change)
-            (changes_wider P (IsListedCell input) (IsListedCell input) (IsListedCell input) (λ cell listed. inr listed) (λ cell listed. listed) [] mid new change)),
-      )
+pub fills_landed : (input : InputLists) {old mid : State} → Lands old mid → Fills input old mid
+fills_landed input lands = (lands.added, lands.part, landed_change (IsListedCell input) lands)
 
-  pub fillable_more : Settles old mid → IsFillable input mid.reads → WasFillable input old
-  fillable_more settles fillable = (mid.reads, settles_landed old mid settles, fillable)
+pub fills_more : (input : InputLists) {old mid new : State} → Settles old mid → ChangesOnly (IsListedCell input) mid new → Fills input old new
+fills_more input settles change = let lands = settles_land _ _ settles in (lands.added, lands.part, landed_more (IsListedCell input) lands change)
 
 -- Filling a store with no copy in flight
 
-module _ (input : InputLists) (old found : State) (none : flights old ≡ []) (seek : ChangesOnly NoCell old found) where
-  pub found_none : flights found ≡ []
-  found_none = still_none NoCell old found none seek
+module _ (input : InputLists) {old put new : State} (none : flights old ≡ []) (puts : ChangesOnly (IsListedCell input) old put)
+    {these : List Flight} (ends : Ends these put new) where
+  pub synced_made : HasMade input put.reads → HasMade input new.reads
+  synced_made made = subst (HasMade input) (sync_same put new (still_none _ _ _ none puts) these ends) made
 
-  pub found_listed : ChangesOnly (IsListedCell input) old found
-  found_listed = changes_wider (IsListedCell input) (IsListedCell input) NoCell NoCell (λ cell out. absurd out) (λ cell out. absurd out) [] old found seek
-
-  module _ (put : State) (puts : ChangesOnly (IsListedCell input) found put) where
-    pub put_listed : ChangesOnly (IsListedCell input) old put
-    put_listed = then_step (IsListedCell input) old found (IsListedCell input) put (λ cell listed. listed) found_listed puts
-
-    put_none : flights put ≡ []
-    put_none = still_none (IsListedCell input) old put none put_listed
-
-    module _ (new : State) (these : List Flight) (ends : Ends these put new) where
-      pub synced_listed : ChangesOnly (IsListedCell input) old new
-      synced_listed = then_sync (IsListedCell input) old put new none put_listed these ends
-
-      pub synced_made : HasMade input put.reads → HasMade input new.reads
-      synced_made made = subst (HasMade input) (sync_same put new put_none these ends) made
-
-      pub synced_idle : is_armed old.reads ≡ false → is_armed new.reads ≡ false
-      synced_idle idle = ap is_one (synced_listed.told.same Gate (λ listed. let e = listed.2 in cc)) ∙ idle
+  pub synced_idle : is_armed old.reads ≡ false → is_armed new.reads ≡ false
+  synced_idle idle = ap is_one ((then_sync _ old put new none puts these ends).told.same Gate (λ listed. let e = listed.2 in cc)) ∙ idle

@@ -1,11 +1,9 @@
 -- What reads give once each copy in flight has ended is one image.
+use Rattle.mig_mover.proofs.Common.{All, AreFlights, Cell, Flight, Image, IsCopy, IsLanded, IsSome, IsTargetOf, List, None, Option, Some, State}
+use Rattle.mig_mover.proofs.Common.{Tells, [], ap, arith, cases_Bool, false, false≢true, flights, inl, inr, is_slot, length, option_map, refl}
+use Rattle.mig_mover.proofs.Common.{same_image, subst, suc, sym, told_kept, true, zero, ℕ, ◌∙◌, ◌∷◌, ◌≡◌, ◌⊎◌}
 use Rattle.mig_base.proofs.CellTests.{is_cell-same, is_cell-true}
-use Rattle.mig_base.proofs.Common.{All, AreFlights, Image, IsCopy, IsSome, IsTargetOf, List, None, Option, Some, State, Tells, [], ap, arith, cases_Bool, false, false≢true, flights, inl, inr, is_cell}
-use Rattle.mig_base.proofs.Common.{is_slot, length, option_map, refl, subst, suc, sym, true, zero, ℕ, ◌∙◌, ◌∷◌, ◌≡◌, ◌⊎◌}
-use Rattle.mig_base.proofs.StoreSteps.{same_image, told_kept}
-use Rattle.mig_base.specs.declared.cells.Cell.{Cell}
-use Rattle.mig_base.specs.declared.cells.Flight.{Flight}
-use Rattle.mig_mover.specs.Moves.{IsLanded}
+use Rattle.mig_base.proofs.Common.{is_cell}
 
 target_or_not : (fs : List Flight) (cell : Cell) → IsTargetOf fs cell ⊎ (IsTargetOf fs cell → ⊥)
 target_or_not [] cell = inr (λ any. let lt = any.2 in absurd (omega arith))

@@ -1,21 +1,20 @@
 -- A store that is ready for a plan, and tells its cells, shows no ground to refuse it.
-use Rattle.mig_mover.proofs.Common.{All-contains, At, At-item, CanTake, Cell, Contains, HasHeader, IfSome, Image, IsFreeSlot, IsJobCell, IsPlanSpot, IsReady, IsShifted, IsSome, IsTaken, IsTask, IsUnused, List}
-use Rattle.mig_mover.proofs.Common.{None, Option, Shift, Some, Spot, Task, Tells, [], ap, arith, cases_lt, contains_any, false≢true, first_byte, get_or_from_slice_get, in_some, inl, inr, item_cell, item_name, leaves, length, moved_cases, no_round, no_spot, option_map}
-use Rattle.mig_mover.proofs.Common.{refl, round_at, shifts_of, slice_get, slice_get-get_or, slice_get_within, slot_of, subst, suc, sym, take, zero, ℕ, ⊎_elim, ◌<◌, ◌∙◌, ◌∷◌, ◌≡◌, ◌≤◌}
-use Rattle.std.specs.Option.{IsSomeAnd}
+use Rattle.mig_mover.proofs.Common.{All-contains, At, At-item, CanTake, Cell, Contains, Err, HasGround, HasHeader, IfSome, Image, InputLists}
+use Rattle.mig_mover.proofs.Common.{IsFreeSlot, IsJobCell, IsKept, IsLast, IsListedCell, IsName, IsPlanSpot, IsReady, IsShifted, IsShiftedName}
+use Rattle.mig_mover.proofs.Common.{IsSome, IsSomeAnd, IsTaken, IsTask, IsUnused, List, None, Ok, Option, Result, Shift, Sights, Some, Spot, State}
+use Rattle.mig_mover.proofs.Common.{Task, Tells, [], ap, arith, cases_lt, cell_at, contains_any, false≢true, first_byte, get_or_from_slice_get}
+use Rattle.mig_mover.proofs.Common.{in_some, inl, inr, item_cell, item_name, leaves, length, made_slot, moved_cases, no_round, no_spot, option_map}
+use Rattle.mig_mover.proofs.Common.{refl, round_at, shifts_of, slice_get, slice_get-get_or, slice_get_within, slot_of, subst, suc, sym, take, zero, ℕ}
+use Rattle.mig_mover.proofs.Common.{⊎_elim, ◌<◌, ◌∙◌, ◌∷◌, ◌≡◌, ◌≤◌}
 use Rattle.std.specs.Prelude.{slice_index, slice_index_or}
 use Rattle.mig_journal.proofs.Steps.{only_rose}
 use Rattle.mig_base.specs.Stores.{HasCause}
-use Rattle.mig_store.specs.Grounds.{HasGround, IsLast, Sights}
 use Rattle.mig_store.specs.Grounds.{AreZeros as AllZeros}
-use Rattle.mig_mover.proofs.Common.{Err, InputLists, IsListedCell, Ok, Result, State, made_slot}
-use Rattle.mig_base.specs.Naming.{IsName}
 use Rattle.mig_jobs.proofs.VacancyLaws.{source_taken}
 use Rattle.mig_mover.proofs.AskedSlots.{in_plan}
 use Rattle.mig_mover.proofs.SeenSlots.{some_and}
 use Rattle.mig_mover.proofs.ShiftedSlots.{shifted_named}
 use Rattle.mig_mover.proofs.TargetLaws.{in_round}
-use Rattle.mig_mover.specs.Holdings.{IsKept, IsShiftedName, cell_at}
 
 -- a slot with an item's header is used
 first_of : (bytes : List ℕ) → slice_index_or (take 34 bytes) 0 0 ≡ slice_index_or bytes 0 0

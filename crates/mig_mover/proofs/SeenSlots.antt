@@ -1,18 +1,19 @@
 -- What a store that refuses has seen of a plan's slots, and that it refuses nothing then.
-use Rattle.mig_mover.proofs.Common.{AllWithin, At, At-item, Cell, Contains, HasHeader, HoldsZeros, IfSome, Image, InputLists, IsFreeSlot, IsJournal, IsShifted, IsSome, IsSourceSlot, IsTarget, IsTask, List}
-use Rattle.mig_mover.proofs.Common.{None, Option, SameBut, Shift, Some, Spot, Task, [], any_contains, ap, arith, cases_Bool, cases_cell, cases_eq, contains_any, false, false≢true, get_or, get_or_default, header_of, inl, inr}
-use Rattle.mig_mover.proofs.Common.{item_name, key_false, key_true, leaves, length, list_any, moved_cases, named_on_disk, option_map, refl, replicate, round_at, same_spot, slot_apart, slot_of, source_facts, subst, suc, sym, take, take-append_seam}
-use Rattle.mig_mover.proofs.Common.{Any-from_list_any, Err, Flight, Ok, Result, Rose, State, at_map, eqb-true, flight_of, flights_of, is_of, is_slot, shifts_of, slice_get, slice_get-get_or}
-use Rattle.mig_mover.proofs.Common.{target_facts, true, ℕ, ⊎_elim, ◌++◌, ◌+◌, ◌-◌, ◌<◌, ◌∙◌, ◌≡◌, ◌≤◌, ◌⊎◌}
-use Rattle.std.specs.Option.{IsSomeAnd}
+use Rattle.mig_mover.proofs.Common.{AllWithin, AreItemsKept, At, At-item, Cell, Contains, Err, HasGround, HasHeader, HoldNoOther, Holds, HoldsZeros}
+use Rattle.mig_mover.proofs.Common.{IfSome, Image, InputLists, IsFreeSlot, IsItemKept, IsItemSeen, IsJournal, IsLast, IsName, IsNoSlot, IsSeen}
+use Rattle.mig_mover.proofs.Common.{IsSeenAtBoth, IsShifted, IsShiftedName, IsSome, IsSomeAnd, IsSourceSlot, IsTarget, IsTask, IsUncopiable, Lacks}
+use Rattle.mig_mover.proofs.Common.{List, None, Ok, Option, Remembers, Result, Rose, SameBut, Shift, Sights, Some, Spot, State, Task, []}
+use Rattle.mig_mover.proofs.Common.{any_contains, ap, arith, cases_Bool, cases_cell, cell_at, contains_any, err_any, false≢true, get_or}
+use Rattle.mig_mover.proofs.Common.{get_or_default, header_of, inl, inr, is_slot, item_name, key_false, key_true, leaves, length, list_any}
+use Rattle.mig_mover.proofs.Common.{moved_cases, named_on_disk, not, option_map, refl, replicate, round_at, same_spot, shape_told, slot_apart}
+use Rattle.mig_mover.proofs.Common.{slot_of, source_facts, subst, suc, sym, take, take-append_seam, target_facts, there, ℕ, ⊎_elim, ◌++◌, ◌+◌, ◌-◌}
+use Rattle.mig_mover.proofs.Common.{◌<◌, ◌∙◌, ◌≡◌, ◌≤◌, ◌⊎◌}
 use Rattle.std.specs.Prelude.{slice_index, slice_index_or, slice_range}
 use Rattle.mig_base.proofs.SafetyLaws.{layout_at}
-use Rattle.mig_base.specs.Naming.{IsName}
 use Rattle.mig_base.specs.Slots.{zeros}
 use Rattle.mig_base.specs.Stores.{HasCause}
-use Rattle.mig_mover.proofs.AskedSlots.{IsFreeOrHeld, shifted, step_back}
-use Rattle.mig_mover.specs.Holdings.{AreAlike, AreItemsKept, HoldNoOther, IsItemKept, IsItemSeen, IsSeen, IsShiftedName, cell_at}
-use Rattle.mig_store.specs.Grounds.{HasGround, Holds, IsLast, IsNoSlot, IsSeenAtBoth, IsUncopiable, Lacks, Remembers, Sights, SlotsDiffer}
+use Rattle.mig_mover.proofs.AskedSlots.{shifted, step_back}
+use Rattle.mig_mover.proofs.TargetLaws.{next_within}
 
 -- what a cell that is told holds
 told_and : {T : Type 0} (P Q : T → Type 0) (o : Option T) → IsSomeAnd o P → IfSome o Q → IsSomeAnd o (λ x. P x × Q x)
@@ -31,11 +32,13 @@ out_of : {T C : Type 0} {P : T → Type 0} (o : Option T) → IsSomeAnd o P → 
 out_of None told f = absurd told
 out_of (Some x) told f = f x refl told
 
--- which cells are told stays
-still_told : (o n : Option (List ℕ)) → option_map length n ≡ option_map length o → IsSome o → IsSome n
-still_told None n shape told = absurd (false≢true told)
-still_told (Some x) None shape told = cc
-still_told (Some x) (Some y) shape told = refl
+if_map : {T : Type 0} {P Q : T → Type 0} (o : Option T) → ((x : T) → P x → Q x) → IfSome o P → IfSome o Q
+if_map None f holds = tt
+if_map (Some x) f holds = f x holds
+
+map_some : {A B : Type 0} (f : A → B) (o : Option A) (y : B) → option_map f o ≡ Some y → (x : A) × (o ≡ Some x) × (f x ≡ y)
+map_some f None y at = cc
+map_some f (Some x) y at = (x, refl, (let e : f x ≡ y = cc in e))
 
 in_told : {T : Type 0} (P : T → Type 0) (o : Option T) → IsSomeAnd o P → IsSome o
 in_told P None told = absurd told
@@ -68,19 +71,43 @@ name_is input item lt items are name at = at ∙ ap (λ (l : List (List ℕ)). g
 one_name : (a b bytes : List ℕ) → length a ≤ 32 → HasHeader a bytes → HasHeader b bytes → a ≡ b
 one_name a b bytes short is_a is_b = same_item a b short (sym is_a ∙ is_b)
 
+-- no item is named but such as the plan shifts
+abbrev pub OnlyShifted : Task → List ℕ → Type 0
+OnlyShifted task bytes = (name : List ℕ) → IsName name → HasHeader name bytes → IsShiftedName task name
+
+-- the slot is told, and the item was seen there
+abbrev pub IsSeenIn : Task → Sights → Image → ℕ → Cell → Type 0
+IsSeenIn task seen image item cell = IsSome (image cell) × seen cell (item_name task.input item)
+
+-- so many of the items that a round shifts were seen at their targets
+abbrev pub AreMovedTo : Task → ℕ → ℕ → Sights → Type 0
+AreMovedTo task round place seen = AllWithin (λ s. seen (slot_of task.input s.to) (item_name task.input s.item.0)) (round_at task.plan round) 0 place
+
 -- the law of a store that refuses: an item is still where it was seen
 abbrev pub AreWhereSeen : Sights → Image → Type 0
 AreWhereSeen seen image = (slot : Cell) (item : List ℕ) → IsName item → seen slot item → Holds image slot item
 
+module _ (task : Task) (is : IsTask task) where
+  item_named : (item : ℕ) → item < length task.input.items → IsName (item_name task.input item)
+  item_named item lt = is.valid.named_items item [] lt
+
+  -- a slot with an item that the plan shifts
+  only_shifted : (item : ℕ) → item < length task.input.items → IsShifted task.plan item → (bytes : List ℕ)
+      → HasHeader (item_name task.input item) bytes → OnlyShifted task bytes
+  only_shifted item lt shift bytes has name is_name header =
+      (item, lt, shift, one_name (item_name task.input item) name bytes (item_named item lt).short has header)
+
+  -- where such an item was seen
+  one_shifted : (seen : Sights) (image : Image) → AreWhereSeen seen image → (cell : Cell) (item : ℕ) → item < length task.input.items
+      → IsShifted task.plan item → IsSome (image cell) → seen cell (item_name task.input item) → IsSomeAnd (image cell) (OnlyShifted task)
+  one_shifted seen image law cell item lt shift told here = some_map (image cell) (only_shifted item lt shift)
+      (some_and _ (image cell) told (law cell (item_name task.input item) (item_named item lt) here))
+
 module _ (task : Task) (is : IsTask task) (k : ℕ) (most : k ≤ length task.plan) where
   -- an item's slot
-  some_spot : (item : ℕ) (cell : Cell) → cell_at task k item ≡ Some cell → (spot : Spot) × (At task.input task.plan k item ≡ Some spot) × (slot_of task.input spot ≡ cell)
-  some_spot item cell at = by (At task.input task.plan k item) refl at
-    where
-      by : (o : Option Spot) → At task.input task.plan k item ≡ o → option_map (slot_of task.input) o ≡ Some cell
-          → (spot : Spot) × (At task.input task.plan k item ≡ Some spot) × (slot_of task.input spot ≡ cell)
-      by None here mapped = cc
-      by (Some spot) here mapped = (spot, here, (let e : slot_of task.input spot ≡ cell = cc in e))
+  some_spot : (item : ℕ) (cell : Cell) → cell_at task k item ≡ Some cell
+      → (spot : Spot) × (At task.input task.plan k item ≡ Some spot) × (slot_of task.input spot ≡ cell)
+  some_spot item cell at = map_some (slot_of task.input) (At task.input task.plan k item) cell at
 
   -- a slot that an item has isn't free
   pub apart_from_free : (item : ℕ) (cell free : Cell) → cell_at task k item ≡ Some cell → IsFreeSlot task.input task.plan k free → cell ≡ free → ⊥
@@ -89,9 +116,6 @@ module _ (task : Task) (is : IsTask task) (k : ℕ) (most : k ≤ length task.pl
       let layout = layout_at task.input is.valid task.plan is.runs k most in
       let spots : own.0 ≡ spot = slot_apart task.input is.valid own.0 spot (layout.on_disks item own.0 own.1) (named_on_disk task.input is.valid task.plan is.runs spot named) (own.2 ∙ equal ∙ sym same) in
       vacant (item, own.1 ∙ ap Some spots)
-
-  item_named : (item : ℕ) → item < length task.input.items → IsName (item_name task.input item)
-  item_named item lt = is.valid.named_items item [] lt
 
   module _ (seen : Sights) (image : Image) (seeing : IsSeen task seen image k) where
     -- an item that a free slot holds was seen elsewhere
@@ -111,12 +135,11 @@ module _ (task : Task) (is : IsTask task) (k : ℕ) (most : k ≤ length task.pl
     seen_on after kept new same = record {
       items = λ item lt shift. out_of (cell_at task k item) (seeing.items item lt shift) (λ cell at here.
           let own = some_spot item cell at in
-          subst (λ (o : Option Cell). IsSomeAnd o (λ c. IsSome (new c) × after c (item_name task.input item))) (sym at)
-          (subst (λ (c : Cell). IsSome (new c) × after c (item_name task.input item)) own.2
-          (subst IsSome (sym (same own.0)) (subst (λ (c : Cell). IsSome (image c)) (sym own.2) here.0), kept own.0 (item_name task.input item) (subst (λ (c : Cell). seen c (item_name task.input item)) (sym own.2) here.1))));
-      free = λ cell vacant.
-          subst (λ (c : Cell). IsSomeAnd (new c) (λ bytes. (name : List ℕ) → IsName name → HasHeader name bytes → IsShiftedName task name)) vacant.3
-          (subst (λ (o : Option (List ℕ)). IsSomeAnd o (λ bytes. (name : List ℕ) → IsName name → HasHeader name bytes → IsShiftedName task name)) (sym (same vacant.0))
+          subst (λ (o : Option Cell). IsSomeAnd o (IsSeenIn task after new item)) (sym at)
+          (subst (λ (c : Cell). IsSeenIn task seen image item c → IsSeenIn task after new item c) own.2
+          (λ was. (subst IsSome (sym (same own.0)) was.0, kept own.0 (item_name task.input item) was.1)) here));
+      free = λ cell vacant. subst (λ (c : Cell). IsSomeAnd (new c) (OnlyShifted task)) vacant.3
+          (subst (λ (o : Option (List ℕ)). IsSomeAnd o (OnlyShifted task)) (sym (same vacant.0))
           (seeing.free (slot_of task.input vacant.0) (vacant.0, vacant.1, vacant.2, refl)));
     }
 
@@ -128,31 +151,26 @@ module _ (task : Task) (is : IsTask task) (k : ℕ) (most : k ≤ length task.pl
     -- a free slot was written
     module _ (free : Cell) (vacant : IsFreeSlot task.input task.plan k free) (after : Sights) (new : Image) (step : SameBut (λ c. c ≡ free) image new)
         (kept : (cell : Cell) (name : List ℕ) → IsName name → (cell ≡ free → ⊥) → seen cell name → after cell name)
-        (holds : IfSome (new free) (λ bytes. (name : List ℕ) → IsName name → HasHeader name bytes → IsShiftedName task name)) where
+        (holds : IfSome (new free) (OnlyShifted task)) where
       pub seen_written : IsSeen task after new k
       seen_written = record {
         items = λ item lt shift. out_of (cell_at task k item) (seeing.items item lt shift) (λ cell at here.
-            subst (λ (o : Option Cell). IsSomeAnd o (λ c. IsSome (new c) × after c (item_name task.input item))) (sym at)
-            (still_told (image cell) (new cell) (step.shape cell) here.0, kept cell (item_name task.input item) (item_named item lt) (apart_from_free item cell free at vacant) here.1));
-        free = λ cell out. by cell out (cases_cell cell free);
+            subst (λ (o : Option Cell). IsSomeAnd o (IsSeenIn task after new item)) (sym at) (
+              shape_told (image cell) (new cell) (step.shape cell) here.0,
+              kept cell (item_name task.input item) (item_named task is item lt) (apart_from_free item cell free at vacant) here.1,
+            ));
+        free = λ cell out. elim (cases_cell cell free) [
+          | inl same ↦ subst (λ (c : Cell). IsSomeAnd (new c) (OnlyShifted task)) (sym same)
+              (some_and _ (new free) (shape_told (image free) (new free) (step.shape free) (in_told _ (image free) (seeing.free free vacant))) holds)
+          | inr other ↦ subst (λ (o : Option (List ℕ)). IsSomeAnd o (OnlyShifted task)) (sym (step.same cell other)) (seeing.free cell out)
+        ];
       }
-        where
-          by : (cell : Cell) → IsFreeSlot task.input task.plan k cell → (cell ≡ free) ⊎ (cell ≡ free → ⊥)
-              → IsSomeAnd (new cell) (λ bytes. (name : List ℕ) → IsName name → HasHeader name bytes → IsShiftedName task name)
-          by cell out (inl same) =
-              subst (λ (c : Cell). IsSomeAnd (new c) (λ bytes. (name : List ℕ) → IsName name → HasHeader name bytes → IsShiftedName task name)) (sym same)
-              (some_and _ (new free) (still_told (image free) (new free) (step.shape free) (in_told _ (image free) (seeing.free free vacant))) holds)
-          by cell out (inr other) =
-              subst (λ (o : Option (List ℕ)). IsSomeAnd o (λ bytes. (name : List ℕ) → IsName name → HasHeader name bytes → IsShiftedName task name)) (sym (step.same cell other)) (seeing.free cell out)
 
     -- a free slot was emptied
     pub seen_erased : (free : Cell) → IsFreeSlot task.input task.plan k free → (after : Sights) (new : Image) → SameBut (λ c. c ≡ free) image new → Remembers (λ c. c ≡ free) seen after
         → HoldsZeros (new free) → IsSeen task after new k
-    seen_erased free vacant after new step kept erased = seen_written free vacant after new step (λ cell name is_name out was. kept cell name out was) (none (new free) erased)
-      where
-        none : (o : Option (List ℕ)) → HoldsZeros o → IfSome o (λ bytes. (name : List ℕ) → IsName name → HasHeader name bytes → IsShiftedName task name)
-        none None empty = tt
-        none (Some bytes) empty = λ name is_name has. absurd (zeros_name_none name (subst (HasHeader name) empty has))
+    seen_erased free vacant after new step kept erased = seen_written free vacant after new step (λ cell name is_name out was. kept cell name out was)
+        (if_map (new free) (λ bytes empty name is_name has. absurd (zeros_name_none name (subst (HasHeader name) empty has))) erased)
 
 -- the cells of a journal are no slots
 pub journal_beside : {rounds : ℕ} (cell : Cell) → IsJournal rounds cell → IsNoSlot cell
@@ -182,7 +200,7 @@ module _ (task : Task) (is : IsTask task) (k : ℕ) (most : k ≤ length task.pl
       → IsSeen task seen image k
   made_seen seen image kept noted free = record {
     items = λ item lt shift. out_of (cell_at task k item) (kept item shift) (λ cell at told.
-        subst (λ (o : Option Cell). IsSomeAnd o (λ c. IsSome (image c) × seen c (item_name task.input item))) (sym at)
+        subst (λ (o : Option Cell). IsSomeAnd o (IsSeenIn task seen image item)) (sym at)
         (in_told _ (image cell) told, subst (λ (o : Option Cell). IsSomeAnd o (λ c. seen c (item_name task.input item))) at (noted item lt shift)));
     free = free;
   }
@@ -193,29 +211,7 @@ not_lacked task image k item cell shift at lacks kept =
     let held = subst (λ (o : Option Cell). IsSomeAnd o (λ c. IsSomeAnd (image c) (HasHeader (item_name task.input item)))) at (kept shift) in
     out_of (image cell) (told_and _ _ (image cell) held lacks) (λ bytes is both. both.1 both.0)
 
--- slots that are alike don't differ
-pub not_differing : (task : Task) (image : Image) (k place : ℕ) (d : Shift) → place < length (round_at task.plan k)
-    → IfSome (slice_get (flights_of task.input (round_at task.plan k)) place) (λ f. SlotsDiffer image f.from f.to) → AreAlike task image k → ⊥
-not_differing task image k place d lt differ alike =
-    alike place d lt (subst (λ (o : Option Flight). IfSome o (λ f. SlotsDiffer image f.from f.to)) (at_map (flight_of task.input) (round_at task.plan k) place (get_or (round_at task.plan k) place d) (slice_get-get_or (round_at task.plan k) place d lt)) differ)
-
 -- A ground that is handed on
-
-pub rose_after : {a b c : ℕ} {R G H : Type 0} → a ≤ b → (G → H) → Rose b c ⊎ (R × G) → Rose a c ⊎ (R × H)
-rose_after later f (inl rose) = inl (omega (arith, later, rose))
-rose_after later f (inr (refuses, ground)) = inr (refuses, f ground)
-
-pub ground_to : {T E R G H : Type 0} {old new : State} (r : Result T E) → (G → H) → HasGround R G old new r → HasGround R H old new r
-ground_to (Ok x) f ground = record { later = ground.later; failed = tt }
-ground_to (Err e) f ground = record { later = ground.later; failed = rose_after (omega arith) f ground.failed }
-
-pub ground_after : {T E R G H : Type 0} {old mid new : State} (r : Result T E) → old.faults ≤ mid.faults → (G → H) → HasGround R G mid new r → HasGround R H old new r
-ground_after (Ok x) later f ground = record { later = omega (arith, later, ground.later); failed = tt }
-ground_after (Err e) later f ground = record { later = omega (arith, later, ground.later); failed = rose_after later f ground.failed }
-
--- a call that failed is no refusal
-pub rose_later : {a b c : ℕ} {R : Type 0} → a ≤ b → Rose b c → Rose a c ⊎ R
-rose_later later rose = inl (omega (arith, later, rose))
 
 -- one that comes only from a store that refuses
 pub rose_with : {a b c : ℕ} {R G H : Type 0} → a ≤ b → (R → G → H) → Rose b c ⊎ (R × G) → Rose a c ⊎ (R × H)
@@ -226,16 +222,25 @@ pub ground_with : {T E R G H : Type 0} {old mid new : State} (r : Result T E) �
 ground_with (Ok x) later f ground = record { later = omega (arith, later, ground.later); failed = tt }
 ground_with (Err e) later f ground = record { later = omega (arith, later, ground.later); failed = rose_with later f ground.failed }
 
+pub rose_after : {a b c : ℕ} {R G H : Type 0} → a ≤ b → (G → H) → Rose b c ⊎ (R × G) → Rose a c ⊎ (R × H)
+rose_after later f why = rose_with later (λ refuses ground. f ground) why
+
+pub ground_after : {T E R G H : Type 0} {old mid new : State} (r : Result T E) → old.faults ≤ mid.faults → (G → H) → HasGround R G mid new r
+    → HasGround R H old new r
+ground_after r later f ground = ground_with r later (λ refuses why. f why) ground
+
+pub ground_to : {T E R G H : Type 0} {old new : State} (r : Result T E) → (G → H) → HasGround R G old new r → HasGround R H old new r
+ground_to r f ground = ground_after r (omega arith) f ground
+
+-- what a call says that failed, of the calls before it too
+pub ground_err : {T E R G H : Type 0} {old new : State} {mid : ℕ} (r : Result T E) → old.faults ≤ mid → mid ≤ new.faults → (R → G → H)
+    → Rose mid new.faults ⊎ (R × G) → HasGround R H old new r
+ground_err r before later f why = record { later = omega (arith, before, later); failed = err_any r (rose_with before f why) }
+
 -- a call that refuses nothing
 pub cause_ground : {T E R G : Type 0} {old new : State} (r : Result T E) → HasCause old new r → HasGround R G old new r
 cause_ground (Ok x) cause = record { later = cause.later; failed = tt }
 cause_ground (Err e) cause = record { later = cause.later; failed = inl cause.failed }
-
--- the plan shifts an item where the code finds a shift of it
-pub is_shifted_by : (plan : List (List Shift)) (item : ℕ) → list_any (is_of item) (shifts_of plan) ≡ true → IsShifted plan item
-is_shifted_by plan item said =
-    let any = Any-from_list_any (is_of item) (shifts_of plan) said in
-    (any.0, any.1, any.2, any.3, eqb-true any.1.item.0 item any.4)
 
 -- what a round left is free after it
 pub source_free_slot : (task : Task) (is : IsTask task) (k : ℕ) → k ≤ length task.plan → (cell : Cell) → IsSourceSlot task.input task.plan k cell → IsFreeSlot task.input task.plan k cell
@@ -275,27 +280,21 @@ module _ (task : Task) (is : IsTask task) (k : ℕ) (lt : k < length task.plan) 
     is_shifted : IsShifted task.plan s.item.0
     is_shifted = shifted task is k s lt has
 
-    shifted_name : IsShiftedName task (item_name task.input s.item.0)
-    shifted_name = (s.item.0, in_range, is_shifted, refl)
-
     target : IsTarget task.plan (suc k) s.to
     target = any_contains (λ (t : Shift). t.to ≡ s.to) (round_at task.plan (suc k)) s has refl
 
     pub to_free : IsFreeSlot task.input task.plan k to_cell
     to_free = (s.to, inr (suc k, inr target), (target_facts task.input is.valid task.plan is.runs k s.to target).2, refl)
 
-    from_apart : from_cell ≡ to_cell → ⊥
-    from_apart = apart_from_free task is k most_k s.item.0 from_cell to_cell at_from to_free
-
     module _ (seen : Sights) (image : Image) (seeing : IsSeen task seen image k) (law : AreWhereSeen seen image) where
       abbrev pub name : List ℕ
       name = item_name task.input s.item.0
 
       is_name : IsName name
-      is_name = item_named task is k most_k s.item.0 in_range
+      is_name = item_named task is s.item.0 in_range
 
-      from_seen : IsSome (image from_cell) × seen from_cell name
-      from_seen = subst (λ (o : Option Cell). IsSomeAnd o (λ c. IsSome (image c) × seen c name)) at_from (seeing.items s.item.0 in_range is_shifted)
+      from_seen : IsSeenIn task seen image s.item.0 from_cell
+      from_seen = subst (λ (o : Option Cell). IsSomeAnd o (IsSeenIn task seen image s.item.0)) at_from (seeing.items s.item.0 in_range is_shifted)
 
       -- its copy isn't refused
       pub copied_freely : (after : Sights) → Remembers (λ c. (c ≡ from_cell) ⊎ (c ≡ to_cell)) seen after → IsUncopiable image after from_cell to_cell → ⊥
@@ -303,12 +302,12 @@ module _ (task : Task) (is : IsTask task) (k : ℕ) (lt : k < length task.plan) 
       copied_freely after kept (inr other) =
           out_of (image to_cell) (told_and _ _ (image to_cell) (seeing.free to_cell to_free) other.last.held) (λ bytes at both.
           let own = elsewhere task is k most_k seen image seeing other.last.item to_cell (both.0 other.last.item other.last.name both.1) to_free in
-          by own.0 own.1 own.2 (subst (λ (o : Option (List ℕ)). IfSome o (λ b. Lacks image from_cell other.last.item)) at other.other) (cases_cell own.0 from_cell))
-        where
-          by : (cell : Cell) → seen cell other.last.item → (cell ≡ to_cell → ⊥) → Lacks image from_cell other.last.item → (cell ≡ from_cell) ⊎ (cell ≡ from_cell → ⊥) → ⊥
-          by cell was out lacks (inl same) =
-              clash _ (image from_cell) from_seen.0 (law from_cell other.last.item other.last.name (subst (λ (c : Cell). seen c other.last.item) same was)) lacks
-          by cell was out lacks (inr not) = other.last.alone (cell, kept cell other.last.item (λ either. ⊎_elim not out either) was, out)
+          let lacks = subst (λ (o : Option (List ℕ)). IfSome o (λ b. Lacks image from_cell other.last.item)) at other.other in
+          elim (cases_cell own.0 from_cell) [
+            | inl same ↦ clash _ (image from_cell) from_seen.0
+                (law from_cell other.last.item other.last.name (subst (λ (c : Cell). seen c other.last.item) same own.1)) lacks
+            | inr not ↦ other.last.alone (own.0, kept own.0 other.last.item (λ either. ⊎_elim not own.2 either) own.1, own.2)
+          ])
 
       -- and once it began
       module _ (after : Sights) (new : Image) (step : SameBut (λ c. c ≡ to_cell) image new) (kept : Remembers (λ c. (c ≡ from_cell) ⊎ (c ≡ to_cell)) seen after) (both : IsSeenAtBoth after from_cell to_cell)
@@ -317,127 +316,107 @@ module _ (task : Task) (is : IsTask task) (k : ℕ) (lt : k < length task.plan) 
         one_item : (other : List ℕ) → IsName other → seen from_cell other → other ≡ both.0
         one_item other is_other was =
             out_of (image from_cell) (told_and _ _ (image from_cell) (some_and _ (image from_cell) from_seen.0 (law from_cell other is_other was))
-            (subst (λ (o : Option (List ℕ)). IfSome o (HasHeader both.0)) (step.same from_cell from_apart) (after_law from_cell both.0 both.1 both.2)))
+            (subst (λ (o : Option (List ℕ)). IfSome o (HasHeader both.0))
+            (step.same from_cell (apart_from_free task is k most_k s.item.0 from_cell to_cell at_from to_free))
+            (after_law from_cell both.0 both.1 both.2)))
             (λ bytes at is_both. one_name other both.0 bytes is_other.short is_both.0 is_both.1)
 
         still : (cell : Cell) (other : List ℕ) → IsName other → (cell ≡ to_cell → ⊥) → seen cell other → after cell other
-        still cell other is_other out was = by (cases_cell cell from_cell)
-          where
-            by : (cell ≡ from_cell) ⊎ (cell ≡ from_cell → ⊥) → after cell other
-            by (inl same) = subst (λ (c : Cell). after c other) (sym same)
-                (subst (after from_cell) (sym (one_item other is_other (subst (λ (c : Cell). seen c other) same was))) both.2)
-            by (inr not) = kept cell other (λ either. ⊎_elim not out either) was
+        still cell other is_other out was = elim (cases_cell cell from_cell) [
+          | inl same ↦ subst (λ (c : Cell). after c other) (sym same)
+              (subst (after from_cell) (sym (one_item other is_other (subst (λ (c : Cell). seen c other) same was))) both.2)
+          | inr not ↦ kept cell other (λ either. ⊎_elim not out either) was
+        ]
 
         pub to_seen : after to_cell name
         to_seen = subst (after to_cell) (sym (one_item name is_name from_seen.1)) both.3
 
         pub seen_begun : IsSeen task after new k
-        seen_begun = seen_written task is k most_k seen image seeing to_cell to_free after new step still (holds (new to_cell) (after_law to_cell name is_name to_seen))
-          where
-            holds : (o : Option (List ℕ)) → IfSome o (HasHeader name) → IfSome o (λ bytes. (other : List ℕ) → IsName other → HasHeader other bytes → IsShiftedName task other)
-            holds None has = tt
-            holds (Some bytes) has = λ other is_other header. subst (IsShiftedName task) (one_name name other bytes is_name.short has header) shifted_name
-
-  -- so many of the items that the round shifts were seen at their targets
-  abbrev pub AreMovedTo : ℕ → Sights → Type 0
-  AreMovedTo place seen = AllWithin (λ s. seen (slot_of task.input s.to) (item_name task.input s.item.0)) (round_at task.plan (suc k)) 0 place
+        seen_begun = seen_written task is k most_k seen image seeing to_cell to_free after new step still
+            (if_map (new to_cell) (only_shifted task is s.item.0 in_range is_shifted) (after_law to_cell name is_name to_seen))
 
   pub moved_more : (place : ℕ) (d : Shift) → place < length (round_at task.plan (suc k)) → (seen after : Sights)
       → Remembers (λ c. (c ≡ slot_of task.input (get_or (round_at task.plan (suc k)) place d).from) ⊎ (c ≡ slot_of task.input (get_or (round_at task.plan (suc k)) place d).to)) seen after
-      → AreMovedTo place seen → after (slot_of task.input (get_or (round_at task.plan (suc k)) place d).to) (item_name task.input (get_or (round_at task.plan (suc k)) place d).item.0) → AreMovedTo (place + 1) after
-  moved_more place d within seen after kept sofar here j e low high = by (cases_eq j place)
+      → AreMovedTo task (suc k) place seen → after (slot_of task.input (get_or (round_at task.plan (suc k)) place d).to)
+      (item_name task.input (get_or (round_at task.plan (suc k)) place d).item.0)
+      → AreMovedTo task (suc k) (place + 1) after
+  moved_more place d within seen after kept sofar here =
+      next_within (λ (s : Shift). after (slot_of task.input s.to) (item_name task.input s.item.0)) round place d within
+      (λ j e low before. kept _ _ (λ either. ⊎_elim (from_not j e before) (to_not j e before) either) (sofar j e low before)) here
     where
       round : List Shift
       round = round_at task.plan (suc k)
 
+      has : (j : ℕ) (e : Shift) → j < length round → Contains round (get_or round j e)
+      has j e less = (j, less, get_or_default round j (get_or round j e) e less)
+
       last : Shift
       last = get_or round place d
 
-      by : (j ≡ place) ⊎ (j ≡ place → ⊥) → after (slot_of task.input (get_or round j e).to) (item_name task.input (get_or round j e).item.0)
-      by (inl same) = subst (λ (s : Shift). after (slot_of task.input s.to) (item_name task.input s.item.0)) (sym (ap (λ (n : ℕ). get_or round n e) same ∙ get_or_default round place e d within)) here
-      by (inr other) = kept (slot_of task.input (get_or round j e).to) (item_name task.input (get_or round j e).item.0) (λ either. ⊎_elim from_not to_not either) (sofar j e low before)
-        where
-          before : j < place
-          before = omega (arith, high, other)
+      from_not : (j : ℕ) (e : Shift) → j < place → slot_of task.input (get_or round j e).to ≡ slot_of task.input last.from → ⊥
+      from_not j e before same = apart_from_free task is k most_k last.item.0 (slot_of task.input last.from)
+          (slot_of task.input (get_or round j e).to)
+          (at_from last (has place d within)) (to_free (get_or round j e) (has j e (omega (arith, before, within)))) (sym same)
 
-          has_last : Contains round last
-          has_last = (place, within, get_or_default round place last d within)
+      on_disk : (s : Shift) → Contains round s → s.to.disk.0 < length task.input.disks
+      on_disk s of = (target_facts task.input is.valid task.plan is.runs k s.to (target s of)).1
 
-          has_this : Contains round (get_or round j e)
-          has_this = (j, omega (arith, before, within), get_or_default round j (get_or round j e) e (omega (arith, before, within)))
-
-          from_not : slot_of task.input (get_or round j e).to ≡ slot_of task.input last.from → ⊥
-          from_not same = apart_from_free task is k most_k last.item.0 (slot_of task.input last.from) (slot_of task.input (get_or round j e).to) (at_from last has_last) (to_free (get_or round j e) has_this) (sym same)
-
-          on_disk : (s : Shift) → Contains round s → s.to.disk.0 < length task.input.disks
-          on_disk s has = (target_facts task.input is.valid task.plan is.runs k s.to (target s has)).1
-
-          to_not : slot_of task.input (get_or round j e).to ≡ slot_of task.input last.to → ⊥
-          to_not same = (is.runs.rounds k lt).apart j place e before within
-              (slot_apart task.input is.valid (get_or round j e).to last.to (on_disk (get_or round j e) has_this) (on_disk last has_last) same
-              ∙ ap (λ (s : Shift). s.to) (get_or_default round place d e within))
+      to_not : (j : ℕ) (e : Shift) → j < place → slot_of task.input (get_or round j e).to ≡ slot_of task.input last.to → ⊥
+      to_not j e before same = (is.runs.rounds k lt).apart j place e before within
+          (slot_apart task.input is.valid (get_or round j e).to last.to (on_disk _ (has j e (omega (arith, before, within))))
+          (on_disk _ (has place d within)) same
+          ∙ ap (λ (s : Shift). s.to) (get_or_default round place d e within))
 
   -- all of them were
   abbrev pub AreMoved : Sights → Type 0
-  AreMoved seen = AreMovedTo (length (round_at task.plan (suc k))) seen
+  AreMoved seen = AreMovedTo task (suc k) (length (round_at task.plan (suc k))) seen
 
   moved_to : (seen : Sights) → AreMoved seen → (s : Shift) → Contains (round_at task.plan (suc k)) s → seen (slot_of task.input s.to) (item_name task.input s.item.0)
   moved_to seen moved s has = subst (λ (t : Shift). seen (slot_of task.input t.to) (item_name task.input t.item.0)) has.2 (moved has.0 s (omega arith) has.1)
 
   -- Once the copies of the round have ended, nothing is refused that empties what it left, nor what the next round does.
-  module _ (seen : Sights) (image : Image) (seeing : IsSeen task seen image k) (law : AreWhereSeen seen image) (moved : AreMoved seen) where
-    -- what holds at a slot where an item is seen that the plan shifts
-    one_shifted : (cell : Cell) (item : ℕ) → item < length task.input.items → IsShifted task.plan item → IsSome (image cell) → seen cell (item_name task.input item)
-        → IsSomeAnd (image cell) (λ bytes. (name : List ℕ) → IsName name → HasHeader name bytes → IsShiftedName task name)
-    one_shifted cell item range shift told here =
-        some_map (image cell) (λ bytes has name is_name header. (item, range, shift, one_name (item_name task.input item) name bytes (item_named task is k most_k item range).short has header))
-        (some_and _ (image cell) told (law cell (item_name task.input item) (item_named task is k most_k item range) here))
-
-    pub seen_next : IsSeen task seen image (suc k)
-    seen_next = record {
-      items = λ item range shift. ⊎_elim
-          (λ last. subst (λ (o : Option Spot). IsSomeAnd (option_map (slot_of task.input) o) (λ c. IsSome (image c) × seen c (item_name task.input item))) (sym last.3) (
-            in_told _ (image (slot_of task.input last.0.to)) (seeing.free (slot_of task.input last.0.to) (to_free last.0 last.1)),
-            subst (λ (j : ℕ). seen (slot_of task.input last.0.to) (item_name task.input j)) last.2 (moved_to seen moved last.0 last.1),
-          ))
-          (λ none. subst (λ (o : Option Spot). IsSomeAnd (option_map (slot_of task.input) o) (λ c. IsSome (image c) × seen c (item_name task.input item))) (sym none.1) (seeing.items item range shift))
-          (moved_cases (At task.input task.plan k) (round_at task.plan (suc k)) item);
-      free = λ cell vacant. by_free cell vacant (step_back task is k vacant.0 lt (inl vacant.2));
-    }
-      where
-        by_free : (cell : Cell) (vacant : IsFreeSlot task.input task.plan (suc k) cell) → IsFreeOrHeld task is vacant.0 k
-            → IsSomeAnd (image cell) (λ bytes. (name : List ℕ) → IsName name → HasHeader name bytes → IsShiftedName task name)
-        by_free cell vacant (inl free) = seeing.free cell (vacant.0, vacant.1, free, vacant.3)
-        by_free cell vacant (inr held) =
-            let at : cell_at task k held.0 ≡ Some cell = ap (option_map (slot_of task.input)) held.2 ∙ ap Some vacant.3 in
-            let range = subst (λ (n : ℕ). held.0 < n) is.valid.spots_len (At-item task.input task.plan k held.0 vacant.0 is.runs most_k held.2) in
-            let here = subst (λ (o : Option Cell). IsSomeAnd o (λ c. IsSome (image c) × seen c (item_name task.input held.0))) at (seeing.items held.0 range held.1) in
-            one_shifted cell held.0 range held.1 here.0 here.1
+  pub seen_next : (seen : Sights) (image : Image) → IsSeen task seen image k → AreWhereSeen seen image → AreMoved seen
+      → IsSeen task seen image (suc k)
+  seen_next seen image seeing law moved = record {
+    items = λ item range shift. ⊎_elim
+        (λ last. subst (λ (o : Option Spot). IsSomeAnd (option_map (slot_of task.input) o) (IsSeenIn task seen image item)) (sym last.3) (
+          in_told _ (image (slot_of task.input last.0.to)) (seeing.free (slot_of task.input last.0.to) (to_free last.0 last.1)),
+          subst (λ (j : ℕ). seen (slot_of task.input last.0.to) (item_name task.input j)) last.2 (moved_to seen moved last.0 last.1),
+        ))
+        (λ none. subst (λ (o : Option Spot). IsSomeAnd (option_map (slot_of task.input) o) (IsSeenIn task seen image item)) (sym none.1)
+        (seeing.items item range shift))
+        (moved_cases (At task.input task.plan k) (round_at task.plan (suc k)) item);
+    free = λ cell vacant. elim (step_back task is k vacant.0 lt (inl vacant.2)) [
+      | inl free ↦ seeing.free cell (vacant.0, vacant.1, free, vacant.3)
+      | inr held ↦
+          let at : cell_at task k held.0 ≡ Some cell = ap (option_map (slot_of task.input)) held.2 ∙ ap Some vacant.3 in
+          let range = subst (λ (n : ℕ). held.0 < n) is.valid.spots_len (At-item task.input task.plan k held.0 vacant.0 is.runs most_k held.2) in
+          let here = subst (λ (o : Option Cell). IsSomeAnd o (IsSeenIn task seen image held.0)) at (seeing.items held.0 range held.1) in
+          one_shifted task is seen image law cell held.0 range held.1 here.0 here.1
+    ];
+  }
 
   -- the copies have ended: other bytes came at their targets alone
   pub seen_landed : (seen after : Sights) (image new : Image) → IsSeen task seen image k → AreMoved seen → Remembers (λ c. ⊥) seen after
       → ((cell : Cell) → (((s : Shift) → Contains (round_at task.plan (suc k)) s → cell ≡ slot_of task.input s.to → ⊥)) → new cell ≡ image cell)
       → ((cell : Cell) → option_map length (new cell) ≡ option_map length (image cell)) → AreWhereSeen after new → IsSeen task after new k
   seen_landed seen after image new seeing moved kept same shape law = record {
-    items = λ item range shift. some_map (cell_at task k item) (λ cell here. (still_told (image cell) (new cell) (shape cell) here.0, kept cell (item_name task.input item) (λ none. none) here.1)) (seeing.items item range shift);
-    free = λ cell vacant. by cell vacant (cases_Bool (list_any (λ (s : Shift). same_spot s.to vacant.0) (round_at task.plan (suc k))));
-  }
-    where
-      moved_after : AreMoved after
-      moved_after j e low high = kept (slot_of task.input (get_or (round_at task.plan (suc k)) j e).to) (item_name task.input (get_or (round_at task.plan (suc k)) j e).item.0) (λ none. none) (moved j e low high)
-
-      by : (cell : Cell) (vacant : IsFreeSlot task.input task.plan k cell) → (list_any (λ (s : Shift). same_spot s.to vacant.0) (round_at task.plan (suc k)) ≡ true) ⊎ (list_any (λ (s : Shift). same_spot s.to vacant.0) (round_at task.plan (suc k)) ≡ false)
-          → IsSomeAnd (new cell) (λ bytes. (name : List ℕ) → IsName name → HasHeader name bytes → IsShiftedName task name)
-      by cell vacant (inl found) =
+    items = λ item range shift. some_map (cell_at task k item)
+        (λ cell here. (shape_told (image cell) (new cell) (shape cell) here.0, kept cell (item_name task.input item) (λ none. none) here.1))
+        (seeing.items item range shift);
+    free = λ cell vacant. elim (cases_Bool (list_any (λ (s : Shift). same_spot s.to vacant.0) (round_at task.plan (suc k)))) [
+      | inl found ↦
           let any = key_true (λ (s : Shift). s.to) (round_at task.plan (suc k)) vacant.0 found in
           let has = contains_any (λ (s : Shift). s.to ≡ vacant.0) (round_at task.plan (suc k)) any in
-          let is_cell : slot_of task.input any.1.to ≡ cell = ap (slot_of task.input) any.4 ∙ vacant.3 in
-          let there = subst (λ (c : Cell). after c (item_name task.input any.1.item.0)) is_cell (moved_to after moved_after any.1 has) in
-          some_map (new cell) (λ bytes holds name is_name header. subst (IsShiftedName task) (one_name (item_name task.input any.1.item.0) name bytes (item_named task is k most_k any.1.item.0 (in_range any.1 has)).short holds header) (shifted_name any.1 has))
-          (some_and _ (new cell) (still_told (image cell) (new cell) (shape cell) (in_told _ (image cell) (seeing.free cell vacant))) (law cell (item_name task.input any.1.item.0) (item_named task is k most_k any.1.item.0 (in_range any.1 has)) there))
-      by cell vacant (inr none) =
-          subst (λ (o : Option (List ℕ)). IsSomeAnd o (λ bytes. (name : List ℕ) → IsName name → HasHeader name bytes → IsShiftedName task name)) (sym (same cell (λ s has is_to.
+          one_shifted task is after new law cell any.1.item.0 (in_range any.1 has) (is_shifted any.1 has)
+          (shape_told (image cell) (new cell) (shape cell) (in_told _ (image cell) (seeing.free cell vacant)))
+          (subst (λ (c : Cell). after c (item_name task.input any.1.item.0)) (ap (slot_of task.input) any.4 ∙ vacant.3)
+          (kept _ _ (λ none. none) (moved_to seen moved any.1 has)))
+      | inr none ↦ subst (λ (o : Option (List ℕ)). IsSomeAnd o (OnlyShifted task)) (sym (same cell (λ s has is_to.
           key_false (λ (t : Shift). t.to) (round_at task.plan (suc k)) vacant.0 none
           (any_contains (λ (t : Shift). t.to ≡ vacant.0) (round_at task.plan (suc k)) s has
-          (slot_apart task.input is.valid s.to vacant.0 (target_facts task.input is.valid task.plan is.runs k s.to (target s has)).1 (named_on_disk task.input is.valid task.plan is.runs vacant.0 vacant.1) (sym is_to ∙ sym vacant.3))))))
+          (slot_apart task.input is.valid s.to vacant.0 (target_facts task.input is.valid task.plan is.runs k s.to (target s has)).1
+          (named_on_disk task.input is.valid task.plan is.runs vacant.0 vacant.1) (sym is_to ∙ sym vacant.3))))))
           (seeing.free cell vacant)
+    ];
+  }

@@ -1,11 +1,15 @@
 -- What the first sync of a call gives.
-use Rattle.mig_mover.proofs.Common.{Adds, All, All-contains, AreFlights, BeginsRun, Cell, Changes, ChangesOnly, Contains-get_or, Contains-permutation, Contents, Ends, Enters, EntersOn, Err}
-use Rattle.mig_mover.proofs.Common.{Event, Flight, Gate, Head, Idle, IfErr, IfOk, IfSome, Image, IsCopy, IsFault, IsFaultOn, IsHaltSafe, IsJobCell, IsLanded, IsPermutation, IsPermutation-sym}
-use Rattle.mig_mover.proofs.Common.{IsPlanFault, IsReadyIdle, IsRefusal, IsRun, IsRunning, IsSafeAt, IsSettled, IsSome, IsSound, IsState, IsTargetOf, Keeps, KeepsOn, Lands, LeavesOnly}
-use Rattle.mig_mover.proofs.Common.{List, Mark, MayBeHalting, MoveFault, NoCell, None, NotStarted, NotThere, Occupied, Ok, Option, OtherPlan, Result, Seen, Settles, SettlesTo, Some, Started}
-use Rattle.mig_mover.proofs.Common.{State, Store, Task, Tells, [], ap, append-nil, arith, cases_Bool, changes_then, changes_wider, count_idle, count_is, count_of, counted, ended, events_none}
-use Rattle.mig_mover.proofs.Common.{false, false≢true, flights, flights_same, get_or, inl, inr, is_armed, is_marked, is_one, is_running, is_slot, leaves_then, length, map, map-append, no_target}
-use Rattle.mig_mover.proofs.Common.{quiet_leaves, refl, same_image, same_wider, settled_change, subst, suc, sym, target_left, target_permuted, told_kept, true, ℕ, ◌++◌, ◌∙◌, ◌≡◌, ◌≤◌, ◌⊎◌}
+use Rattle.mig_mover.proofs.Common.{Adds, All, All-contains, AreFlights, BeginsRun, Cell, Changes, ChangesOnly, Contains-get_or, Contains-permutation}
+use Rattle.mig_mover.proofs.Common.{Contents, Ends, Enters, EntersOn, Err, Event, Flight, Gate, Head, Idle, IfErr, IfOk, IfSome, Image, IsCopy}
+use Rattle.mig_mover.proofs.Common.{IsFault, IsFaultOn, IsHaltSafe, IsJobCell, IsLanded, IsPermutation, IsPermutation-sym, IsPlanFault, IsReadyIdle}
+use Rattle.mig_mover.proofs.Common.{IsRefusal, IsRun, IsRunning, IsSafeAt, IsSettled, IsSome, IsSound, IsState, IsTargetOf, Keeps, KeepsOn, Lands}
+use Rattle.mig_mover.proofs.Common.{LeavesOnly, List, Mark, MayBeHalting, MoveFault, NoCell, None, NotStarted, NotThere, Occupied, Ok, Option}
+use Rattle.mig_mover.proofs.Common.{OtherPlan, Result, SameBut, Seen, Settles, SettlesTo, Some, Started, State, Store, Task, Tells, [], ap}
+use Rattle.mig_mover.proofs.Common.{append-nil, arith, cases_Bool, changes_leave, changes_then, changes_wider, count_idle, count_is, count_of}
+use Rattle.mig_mover.proofs.Common.{counted, ended, events_none, false, false≢true, flights, flights_same, from_same, get_or, inl, inr, is_armed}
+use Rattle.mig_mover.proofs.Common.{is_marked, is_one, is_running, is_slot, leaves_then, length, map, map-append, no_target, quiet_leaves, refl}
+use Rattle.mig_mover.proofs.Common.{same_image, same_wider, settled_change, subst, suc, sym, target_left, target_permuted, then_step, told_kept, true}
+use Rattle.mig_mover.proofs.Common.{ℕ, ◌++◌, ◌∙◌, ◌≡◌, ◌≤◌, ◌⊎◌}
 
 module _ (these : List Flight) (old new : State) (ends : Ends these old new) where
   within : (cell : Cell) → IsTargetOf these cell → IsTargetOf (flights old) cell
@@ -68,9 +72,6 @@ module _ (old mid : State) (settles : Settles old mid) where
       let from = settles.change.crash mid.reads (settles.change.images told.1) in
       subst P (same_image from.0 mid.reads from.2) (told.0 from.0 from.1)
 
-  pub settles_more : (P : Image → Type 0) → SettlesTo P old → SettlesTo P mid
-  settles_more P before = inl (settled_reads P before, settles.landed)
-
   pub tells_more : (P : Cell → Type 0) → Tells P old.reads → Tells P mid.reads
   tells_more P tells cell of = told_kept (IsTargetOf (flights old)) old.reads mid.reads settles.change.told cell (tells cell of)
 
@@ -121,30 +122,39 @@ landed_added old new lands told = (lands.added, lands.part, lands.change.events)
 pub run_part : (old new : State) → Adds (IsRun (flights old) []) old new → Adds (BeginsRun (flights old) []) old new
 run_part old new adds told = let a = adds told in (a.0, run_begins (flights old) a.0 a.1, a.2)
 
+-- what changed once copies in flight have ended, and then these cells
+module _ (P : Cell → Type 0) {old mid : State} (lands : Lands old mid) where
+  pub landed_change : Changes (λ cell. IsTargetOf (flights old) cell ⊎ P cell) P lands.added old mid
+  landed_change = changes_wider _ _ _ NoCell (λ cell any. inl any) (λ cell out. absurd out) lands.added old mid lands.change
+
+  pub landed_more : {new : State} → ChangesOnly P mid new → Changes (λ cell. IsTargetOf (flights old) cell ⊎ P cell) P lands.added old new
+  landed_more {new} change = subst (λ (l : List Event). Changes (λ cell. IsTargetOf (flights old) cell ⊎ P cell) P l old new) (append-nil lands.added)
+      (changes_then _ P lands.added [] old mid new landed_change (changes_wider _ _ P P (λ cell of. inr of) (λ cell of. of) [] mid new change))
+
+module _ (old : State) (law : IsState old) (P : Image → Type 0) where
+  pub lands_leave : (new : State) → Lands old new → LeavesOnly P old new
+  lands_leave new lands = quiet_leaves P (IsTargetOf (flights old)) lands.added old new law lands.change
+
+  pub settles_leave : (mid : State) → Settles old mid → (new : State) → LeavesOnly P mid new → LeavesOnly P old new
+  settles_leave mid settles new = leaves_then P old mid new (quiet_leaves P (IsTargetOf (flights old)) settles.added old mid law settles.change)
+
 module _ (task : Task) (old : State) (law : IsState old) where
   pub keeps_lands : (new : State) → Lands old new → old.faults ≤ new.faults → Keeps task old new
   keeps_lands new lands later = record {
-    sound = λ asked contents tells sound. quiet_leaves (IsSound asked task.input task.plan task.digest contents) (IsTargetOf (flights old)) lands.added old new law lands.change;
-    ready = λ tells ready. quiet_leaves (IsReadyIdle task) (IsTargetOf (flights old)) lands.added old new law lands.change;
-    change = (lands.added, changes_wider (λ cell. IsTargetOf (flights old) cell ⊎ IsJobCell task.input task.plan cell) (IsJobCell task.input task.plan) (IsTargetOf (flights old)) NoCell (λ cell any. inl any) (λ cell out. absurd out) lands.added old new lands.change);
+    sound = λ asked contents tells sound. lands_leave old law _ new lands;
+    ready = λ tells ready. lands_leave old law _ new lands;
+    change = (lands.added, landed_change (IsJobCell task.input task.plan) lands);
     later = later;
   }
 
   module _ (mid : State) (settles : Settles old mid) (later : old.faults ≤ mid.faults) (new : State) where
     pub keeps_from : KeepsOn task mid new → Keeps task old new
     keeps_from keeps = record {
-      sound = λ asked contents tells sound. leaves_then (IsSound asked task.input task.plan task.digest contents) old mid new
-          (quiet_leaves (IsSound asked task.input task.plan task.digest contents) (IsTargetOf (flights old)) settles.added old mid law settles.change)
+      sound = λ asked contents tells sound. settles_leave old law _ mid settles new
           (keeps.sound asked contents (tells_more old mid settles (IsJobCell task.input task.plan) tells) (settled_reads old mid settles (IsSound asked task.input task.plan task.digest contents) sound));
-      ready = λ tells ready. leaves_then (IsReadyIdle task) old mid new
-          (quiet_leaves (IsReadyIdle task) (IsTargetOf (flights old)) settles.added old mid law settles.change)
+      ready = λ tells ready. settles_leave old law _ mid settles new
           (keeps.ready (tells_more old mid settles (IsJobCell task.input task.plan) tells) (settled_reads old mid settles (IsReadyIdle task) ready));
-      change = (
-        settles.added ++ [],
-        changes_then (λ cell. IsTargetOf (flights old) cell ⊎ IsJobCell task.input task.plan cell) (IsJobCell task.input task.plan) settles.added [] old mid new
-            (changes_wider (λ cell. IsTargetOf (flights old) cell ⊎ IsJobCell task.input task.plan cell) (IsJobCell task.input task.plan) (IsTargetOf (flights old)) NoCell (λ cell any. inl any) (λ cell out. absurd out) settles.added old mid settles.change)
-            (changes_wider (λ cell. IsTargetOf (flights old) cell ⊎ IsJobCell task.input task.plan cell) (IsJobCell task.input task.plan) (IsJobCell task.input task.plan) (IsJobCell task.input task.plan) (λ cell of. inr of) (λ cell of. of) [] mid new keeps.change),
-      );
+      change = let lands = settles_land old mid settles in (lands.added, landed_more (IsJobCell task.input task.plan) lands keeps.change);
       later = omega (arith, later, keeps.later);
     }
 
@@ -203,13 +213,6 @@ armed_told image armed = at (image Gate) armed
 pub never_idle : (image : Image) (seen : Seen) → (IsSome (image Gate) → is_running seen ≡ is_armed image) → seen ≡ Idle → is_armed image ≡ true → ⊥
 never_idle image seen gate is armed = false≢true (sym (ap is_running is) ∙ gate (armed_told image armed) ∙ armed)
 
-module _ (old : State) (law : IsState old) (P : Image → Type 0) where
-  pub lands_leave : (new : State) → Lands old new → LeavesOnly P old new
-  lands_leave new lands = quiet_leaves P (IsTargetOf (flights old)) lands.added old new law lands.change
-
-  pub settles_leave : (mid : State) → Settles old mid → (new : State) → LeavesOnly P mid new → LeavesOnly P old new
-  settles_leave mid settles new = leaves_then P old mid new (quiet_leaves P (IsTargetOf (flights old)) settles.added old mid law settles.change)
-
 -- where closing the plan early was stopped, what reads give once the store is settled is safe
 module _ (task : Task) (contents : Contents) (old mid : State) (settles : Settles old mid) (n : ℕ) (may : MayBeHalting task contents old n) where
   pub halting_armed : is_armed mid.reads ≡ true
@@ -224,39 +227,26 @@ module _ (task : Task) (contents : Contents) (old mid : State) (settles : Settle
 
 -- Refusals
 
+-- what holds of the digest that a look found in the head holds of the head
+pub head_is : (image : Image) (kept : List ℕ) → IfSome (image Head) (λ bytes. kept ≡ bytes) → (Q : List ℕ → Type 0) → Q kept → IfSome (image Head) Q
+head_is image kept head Q q = at (image Head) head
+  where
+    at : (cell : Option (List ℕ)) → IfSome cell (λ bytes. kept ≡ bytes) → IfSome cell Q
+    at None is = is
+    at (Some bytes) is = subst Q is q
+
 -- a store whose journal names a plan is refused by it
-module _ (task : Task) (image : Image) (running : IsRunning image) (kept : List ℕ) (head : IfSome (image Head) (λ bytes. kept ≡ bytes)) where
-  pub head_is : (Q : List ℕ → Type 0) → Q kept → IfSome (image Head) Q
-  head_is Q q = at (image Head) head
-    where
-      at : (cell : Option (List ℕ)) → IfSome cell (λ bytes. kept ≡ bytes) → IfSome cell Q
-      at None is = is
-      at (Some bytes) is = subst Q is q
-
-  pub plan_refusal : (fault : MoveFault) → IsPlanFault task kept fault → IsRefusal task image fault
-  plan_refusal Store is = absurd is
-  plan_refusal Started is = (running, head_is (λ bytes. bytes ≡ task.digest) is)
-  plan_refusal (OtherPlan theirs ours) is = (running, head_is (λ bytes. theirs ≡ bytes) is.0, subst (λ (bytes : List ℕ). bytes ≡ task.digest → ⊥) (sym is.0) is.1, is.2)
-  plan_refusal NotStarted is = absurd is
-  plan_refusal (NotThere item) is = absurd is
-  plan_refusal (Occupied disk slot) is = absurd is
-
-  -- on a settled store, and once it is settled
-  pub plan_fault_on : (R : Type 0) (old new : State) → old.reads ≡ image → ChangesOnly NoCell old new → (fault : MoveFault) → IsPlanFault task kept fault → IsFaultOn R task old new fault
-  plan_fault_on R old new same quiet Store is = absurd is
-  plan_fault_on R old new same quiet Started is = (quiet, subst (λ (im : Image). IsRefusal task im Started) (sym same) (plan_refusal Started is))
-  plan_fault_on R old new same quiet (OtherPlan theirs ours) is = (quiet, subst (λ (im : Image). IsRefusal task im (OtherPlan theirs ours)) (sym same) (plan_refusal (OtherPlan theirs ours) is))
-  plan_fault_on R old new same quiet NotStarted is = absurd is
-  plan_fault_on R old new same quiet (NotThere item) is = absurd is
-  plan_fault_on R old new same quiet (Occupied disk slot) is = absurd is
-
-  pub plan_fault : (R : Type 0) (old new : State) → new.reads ≡ image → Settles old new → (fault : MoveFault) → IsPlanFault task kept fault → IsFault R task old new fault
-  plan_fault R old new same settles Store is = absurd is
-  plan_fault R old new same settles Started is = (settles, subst (λ (im : Image). IsRefusal task im Started) (sym same) (plan_refusal Started is))
-  plan_fault R old new same settles (OtherPlan theirs ours) is = (settles, subst (λ (im : Image). IsRefusal task im (OtherPlan theirs ours)) (sym same) (plan_refusal (OtherPlan theirs ours) is))
-  plan_fault R old new same settles NotStarted is = absurd is
-  plan_fault R old new same settles (NotThere item) is = absurd is
-  plan_fault R old new same settles (Occupied disk slot) is = absurd is
+module _ (task : Task) (old new : State) (settles : Settles old new) (running : IsRunning new.reads) (kept : List ℕ)
+    (head : IfSome (new.reads Head) (λ bytes. kept ≡ bytes)) where
+  pub plan_fault : (R : Type 0) (fault : MoveFault) → IsPlanFault task kept fault → IsFault R task old new fault
+  plan_fault R Store is = absurd is
+  plan_fault R Started is = (settles, (running, head_is new.reads kept head (λ bytes. bytes ≡ task.digest) is))
+  plan_fault R (OtherPlan theirs ours) is =
+      let named = head_is new.reads kept head (λ bytes. theirs ≡ bytes) is.0 in
+      (settles, (running, named, subst (λ (bytes : List ℕ). bytes ≡ task.digest → ⊥) (sym is.0) is.1, is.2))
+  plan_fault R NotStarted is = absurd is
+  plan_fault R (NotThere item) is = absurd is
+  plan_fault R (Occupied disk slot) is = absurd is
 
 -- what a look says of the gate
 pub seen_idle : (image : Image) → (IsSome (image Gate) → false ≡ is_armed image) → is_armed image ≡ false
@@ -272,3 +262,21 @@ settled_same old mid none settles = same_image old.reads mid.reads (record {
   same = λ cell out. settles.change.told.same cell (λ target. no_target (flights old) cell none target);
   shape = settles.change.told.shape;
 })
+
+-- what follows from what a settled store gives, and from the cells that change
+pub settled_leave : {P : Cell → Type 0} {Q : Image → Type 0} {old new : State} → IsSettled old → ChangesOnly P old new
+    → ((image : Image) → SameBut P old.reads image → Q image) → LeavesOnly Q old new
+settled_leave settled change gives =
+    changes_leave _ _ _ [] _ _ change (λ before image left same. gives image (from_same _ _ before image (settled before left) same))
+
+-- nothing changed, and then these cells
+pub quiet_wider : {P : Cell → Type 0} {old new : State} → ChangesOnly NoCell old new → ChangesOnly P old new
+quiet_wider quiet = changes_wider _ _ NoCell NoCell (λ cell out. absurd out) (λ cell out. absurd out) [] _ _ quiet
+
+pub after_quiet : {P : Cell → Type 0} {old mid new : State} → ChangesOnly NoCell old mid → ChangesOnly P mid new → ChangesOnly P old new
+after_quiet quiet change = then_step _ _ _ _ _ (λ cell of. of) (quiet_wider quiet) change
+
+-- one of these cells changed besides
+pub slot_step : {P : Cell → Type 0} {slot : Cell} {old mid new : State} → ChangesOnly P old mid → ChangesOnly (λ c. c ≡ slot) mid new → P slot
+    → ChangesOnly P old new
+slot_step {P} first second of = then_step _ _ _ _ _ (λ cell is. subst P (sym is) of) first second

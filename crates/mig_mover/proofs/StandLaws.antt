@@ -23,7 +23,7 @@ module _ (task : Task) (old mid : State) (settles : Settles old mid) (later : ol
     most = most;
     at = subst (λ (image : Image). IsAt task image k) reads (record {
       running = running;
-      ours = head_is task mid.reads running kept head (λ bytes. bytes ≡ task.digest) ours;
+      ours = head_is mid.reads kept head (λ bytes. bytes ≡ task.digest) ours;
       count = counted_at k count;
     });
     found = λ tells are. sym (counted_at k count (λ cell of. tells_more old mid settles (IsJobCell task.input task.plan) tells cell (inl of))) ∙ count_kept old mid settles are (length task.plan);
@@ -38,7 +38,7 @@ module _ (task : Task) (old mid : State) (settles : Settles old mid) (later : ol
   stand_fault R Q f Started is = absurd is
   stand_fault R Q f (OtherPlan theirs ours) is = refused (OtherPlan theirs ours) (
     running,
-    head_is task mid.reads running kept head (λ bytes. theirs ≡ bytes) is.0,
+    head_is mid.reads kept head (λ bytes. theirs ≡ bytes) is.0,
     subst (λ (bytes : List ℕ). bytes ≡ task.digest → ⊥) (sym is.0) is.1,
     is.2,
   )

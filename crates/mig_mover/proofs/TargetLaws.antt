@@ -109,9 +109,11 @@ module _ (task : Task) (image : Image) (targets : List Spot) (same : targets ≡
   pub none_used : AllWithin (IsUnused task.input image) targets 0 (length targets) → All (CanTake task.input image) (shifts_of task.plan)
   none_used all = none_at task.input.spots (IsUnused task.input image) (shifts_of task.plan) (subst (λ (l : List Spot). AllWithin (IsUnused task.input image) l 0 (length l)) same all)
 
+pub ruleset targets = (target_disk, first_used, none_used)
+
 -- Items
 
-shifted_is : (plan : List (List Shift)) (item : ℕ) → list_any (is_of item) (shifts_of plan) ≡ true → IsShifted plan item
+pub shifted_is : (plan : List (List Shift)) (item : ℕ) → list_any (is_of item) (shifts_of plan) ≡ true → IsShifted plan item
 shifted_is plan item said = let any = Any-from_list_any (is_of item) (shifts_of plan) said in (any.0, any.1, any.2, any.3, eqb-true any.1.item.0 item any.4)
 
 -- an item that the plan shifts is lost exactly where it isn't there
@@ -121,27 +123,17 @@ lost_answer task image item input true same shifted is = λ moves. subst (λ (i 
 lost_answer task image item input false same shifted is = (shifted_is task.plan item shifted, subst (λ (i : InputLists). IsLost i image item) same is)
 
 pub next_item : (P : ℕ → Type 0) (k : ℕ) → ((i : ℕ) → i < k → P i) → P k → (i : ℕ) → i < k + 1 → P i
-next_item P k before here i lt = at (cases_eq i k)
-  where
-    at : (i ≡ k) ⊎ (i ≡ k → ⊥) → P i
-    at (inl is) = subst P (sym is) here
-    at (inr other) = before i (omega arith)
+next_item P k before here i lt = elim (cases_eq i k) [
+  | inl is ↦ subst P (sym is) here
+  | inr other ↦ before i (omega arith)
+]
 
 pub next_within : {X : Type 0} (P : X → Type 0) (xs : List X) (k : ℕ) (e : X) → k < length xs → AllWithin P xs 0 k → P (get_or xs k e) → AllWithin P xs 0 (k + 1)
-next_within P xs k e lt before here i d low high = at (cases_eq i k)
-  where
-    at : (i ≡ k) ⊎ (i ≡ k → ⊥) → P (get_or xs i d)
-    at (inl same) = subst P (sym (ap (λ (n : ℕ). get_or xs n d) same ∙ get_or_default xs k d e lt)) here
-    at (inr other) = before i d low (omega arith)
+next_within P xs k e lt before here i d low high = elim (cases_eq i k) [
+  | inl same ↦ subst P (sym (ap (λ (n : ℕ). get_or xs n d) same ∙ get_or_default xs k d e lt)) here
+  | inr other ↦ before i d low (omega arith)
+]
 
 pub none_of : {X P : Type 0} (found : Option X) → ((x : X) → found ≡ Some x → ⊥) → IfNone found P → P
 none_of None out gives = gives
 none_of (Some x) out gives = absurd (out x refl)
-
-pub match_false : (said : Bool) (P Q : Type 0) → said ≡ false → MatchBool said P Q → Q
-match_false true P Q e is = absurd (false≢true (sym e))
-match_false false P Q e is = is
-
-pub match_true : (said : Bool) (P Q : Type 0) → said ≡ true → MatchBool said P Q → P
-match_true true P Q e is = is
-match_true false P Q e is = absurd (false≢true e)

@@ -14,7 +14,7 @@ use Rattle.mig_base.specs.Texts.{item_name}
 use Rattle.mig_store.specs.Grounds.{FailedOr}
 use Rattle.mig_mover.specs.Moves.{IsLanded, IsRunning, Settles}
 use Rattle.mig_mover.specs.declared.faults.MoveFault.{MoveFault}
-use Rattle.mig_mover.specs.declared.faults.MoveFault.TheVariants.{Store, Started, OtherPlan, NotStarted, NotThere, Occupied}
+use Rattle.mig_mover.specs.declared.faults.MoveFault.TheVariants.{Store, Started, Occupied}
 
 -- no plan is carried out, and no slot where an item is listed is used
 pub record IsFillable (input : InputLists) (image : Image) : Type 0 where

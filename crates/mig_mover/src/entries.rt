@@ -2,8 +2,9 @@
 ghost use Rattle.std.specs.Prelude.{◌≡◌, ◌≢◌, ◌≤◌, ℕ, [], All, true, false, IfErr, IfOk, IfSome, IsSome, OnErr, OnOk, length};
 ghost use Rattle.mig_base.specs.declared.cells.Cell.TheVariants.{Gate, Head};
 ghost use Rattle.mig_base.specs.Flights.{AreFlights};
-ghost use Rattle.mig_base.specs.JobCells.{IsJobCell, Tells};
-ghost use Rattle.mig_base.specs.Journals.{is_armed};
+ghost use Rattle.std.specs.List.{prefix_len, range_with_len};
+ghost use Rattle.mig_base.specs.JobCells.{IsJobCell, IsMark, Tells};
+ghost use Rattle.mig_base.specs.Journals.{is_armed, is_marked};
 ghost use Rattle.mig_base.specs.Layouts.{round_at};
 ghost use Rattle.mig_base.specs.Readiness.{IsReady};
 ghost use Rattle.mig_base.specs.RoundEvents.{IsRun, BeginsRun, Adds};
@@ -17,7 +18,7 @@ ghost use Rattle.mig_base.specs.Images.{NoCell};
 ghost use Rattle.mig_mover.specs.Holdings.{IsKeptMarked, IsSeen, IsUnrefused};
 ghost use Rattle.mig_store.specs.Grounds.{HasGround, Remembers};
 ghost use Rattle.mig_mover.specs.Moves.{Lands, Settles, IsRunning, IsPlanFault, IsFault, IsStartFault, IsResumeFault, StaysArmed, MayBeHalting, Keeps, Enters, KeepsOn, EntersOn, IsFaultOn};
-ghost use Rattle.mig_base.specs.Tasks.{Task};
+ghost use Rattle.mig_base.specs.Tasks.{IsTask, Task};
 
 use crate::erasing::erase_sources;
 use crate::expecting::expect_all;
@@ -122,7 +123,26 @@ fn erase_last<S: Store>(job: &Job, store: &mut S, k: u32) -> Result<(), StoreFai
     erase_sources(job, store, k)
 }
 
-// Goes on after the marked rounds of a store whose journal names the job's plan. Before anything is written the store is asked for the items.
+/// How many rounds are marked, of a store that stands as it should after them. It is asked for the items before anything is written.
+pub(crate) fn expect_marked<S: Store>(job: &Job, store: &mut S) -> Result<u32, StoreFailed>
+    requires none { flights (S.state store.old) ≡ [] }
+    ensures valid { IsTask job.now }
+    ensures most { IfOk result (λ k. k ≤ length job.now.plan) }
+    ensures asked { IfOk result (λ k. AreAsked S.asked job.now) }
+    ensures compared { IfOk result (AreCompared S.compared job.now) }
+    ensures count { IfOk result (λ k. Tells (IsMark (length job.now.plan)) (S.state store.old).reads
+        → k ≡ prefix_len (is_marked (S.state store.old).reads) (range_with_len 1 (length job.now.plan))) }
+    ensures change { ChangesOnly NoCell (S.state store.old) (S.state store.new) }
+    ensures seen { IfOk result (λ k. S.refuses → IsKeptMarked job.now (S.state store.old).reads
+        → IsSeen job.now (S.seen store.new) (S.state store.new).reads k) }
+    ensures cause { HasGround S.refuses (¬ IsKeptMarked job.now (S.state store.old).reads) (S.state store.old) (S.state store.new) result }
+{
+    let k = marked(store, job.rounds())?;
+    expect_all(job, store, k)?;
+    Ok(k)
+}
+
+// Goes on after the marked rounds of a store whose journal names the job's plan.
 fn enter_running<S: Store>(job: &Job, store: &mut S) -> Result<u32, StoreFailed>
     requires settled { IsSettled (S.state store.old) }
     requires none { flights (S.state store.old) ≡ [] }
@@ -132,11 +152,11 @@ fn enter_running<S: Store>(job: &Job, store: &mut S) -> Result<u32, StoreFailed>
     ensures armed { is_armed (S.state store.old).reads ≡ true → LeavesOnly (λ image. is_armed image ≡ true) (S.state store.old) (S.state store.new) }
     ensures asked { IfOk result (λ k. AreAsked S.asked job.now) }
     ensures compared { IfOk result (AreCompared S.compared job.now) }
-    ensures seen { IfOk result (λ k. S.refuses → IsKeptMarked job.now (S.state store.old).reads → IsSeen job.now (S.seen store.new) (S.state store.new).reads k) }
+    ensures seen { IfOk result (λ k. S.refuses → IsKeptMarked job.now (S.state store.old).reads
+        → IsSeen job.now (S.seen store.new) (S.state store.new).reads k) }
     ensures cause { HasGround S.refuses (¬ IsKeptMarked job.now (S.state store.old).reads) (S.state store.old) (S.state store.new) result }
 {
-    let k = marked(store, job.rounds())?;
-    expect_all(job, store, k)?;
+    let k = expect_marked(job, store)?;
     erase_last(job, store, k)?;
     Ok(k)
 }
@@ -153,7 +173,8 @@ fn resume_running<S: Store>(job: &Job, store: &mut S, kept: &[u8; 32]) -> Result
     ensures ours { IfOk result (λ k. kept.now ≡ job.now.digest) }
     ensures asked { IfOk result (λ k. AreAsked S.asked job.now) }
     ensures compared { IfOk result (AreCompared S.compared job.now) }
-    ensures seen { IfOk result (λ k. S.refuses → IsKeptMarked job.now (S.state store.old).reads → IsSeen job.now (S.seen store.new) (S.state store.new).reads k) }
+    ensures seen { IfOk result (λ k. S.refuses → IsKeptMarked job.now (S.state store.old).reads
+        → IsSeen job.now (S.seen store.new) (S.state store.new).reads k) }
     ensures fault { IfErr result (IsFaultOn (S.refuses × (kept.now ≡ job.now.digest) × ¬ IsKeptMarked job.now (S.state store.old).reads) job.now (S.state store.old) (S.state store.new)) }
     ensures kind { IfErr result IsResumeFault }
 {

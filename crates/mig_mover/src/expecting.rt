@@ -1,45 +1,23 @@
 //! What a store is asked before anything is written that rests on it.
 ghost use Rattle.std.specs.Prelude.{◌≡◌, ◌<◌, ◌≤◌, ℕ, [], Some, IfSome, OnOk, length, slice_get};
-ghost use Rattle.std.specs.Option.{option_map};
 ghost use Rattle.mig_base.specs.Images.{NoCell};
 ghost use Rattle.mig_base.specs.JobCells.{IsFreeSlot};
 ghost use Rattle.mig_base.specs.declared.cells.Cell.{Cell};
-ghost use Rattle.mig_base.specs.Layouts.{At, round_at};
+ghost use Rattle.mig_base.specs.Layouts.{round_at};
 ghost use Rattle.mig_base.specs.Slots.{slot_of};
 ghost use Rattle.mig_base.specs.Stores.{State, flights, ChangesOnly};
 ghost use Rattle.mig_base.specs.RoundEvents.{flights_of};
 ghost use Rattle.mig_base.specs.Tasks.{Task, IsTask};
 ghost use Rattle.mig_jobs.specs.Vacancies.{IsVacant};
-ghost use Rattle.mig_base.specs.Texts.{item_name};
 ghost use Rattle.mig_mover.specs.Erasures.{AreAsked, AreCompared, IsItemAsked};
 ghost use Rattle.mig_mover.specs.Holdings.{AreAlike, AreItemsKept, IsItemKept, IsItemSeen, IsKept, IsSeen, cell_at};
-ghost use Rattle.mig_store.specs.Grounds.{HasGround, IsLast, Lacks, Remembers, SlotsDiffer};
+ghost use Rattle.mig_store.specs.Grounds.{HasGround, IsLast, Remembers, SlotsDiffer};
 
 use mig_base::{Cell, ItemId};
 use mig_jobs::{Job, Vacancy, spot_cell};
 use mig_store::{Store, StoreFailed};
 
-// Asks for an item in this cell, where it is after this number of rounds.
-fn expect_item<S: Store>(
-    job: &Job,
-    store: &mut S,
-    item: ItemId,
-    cell: &Cell,
-    found: u32,
-) -> Result<(), StoreFailed>
-    requires item { item.0 < length job.now.input.items }
-    requires there { option_map (slot_of job.now.input) (At job.now.input job.now.plan found item.0) ≡ Some cell.now }
-    requires none { flights (S.state store.old) ≡ [] }
-    ensures asked { OnOk result (S.asked cell.now) }
-    ensures change { ChangesOnly NoCell (S.state store.old) (S.state store.new) }
-    ensures noted { OnOk result (S.seen store.new cell.now (item_name job.now.input item.0)) }
-    ensures seen { Remembers (λ c. c ≡ cell.now) (S.seen store.old) (S.seen store.new) }
-    ensures cause { HasGround S.refuses (Lacks (S.state store.old).reads cell.now (item_name job.now.input item.0)) (S.state store.old) (S.state store.new) result }
-{
-    store.expects(cell, &job.input().items()[item.0 as usize])
-}
-
-// The same for an item that the plan shifts. Others are not asked for.
+// Asks for an item where it is after this number of rounds, if the plan shifts it. Others are not asked for.
 fn expect_moved<S: Store>(
     job: &Job,
     store: &mut S,
@@ -55,10 +33,11 @@ fn expect_moved<S: Store>(
     ensures seen { Remembers (λ c. cell_at job.now found item.0 ≡ Some c) (S.seen store.old) (S.seen store.new) }
     ensures cause { HasGround S.refuses (¬ IsItemKept job.now (S.state store.old).reads found item.0) (S.state store.old) (S.state store.new) result }
 {
-    if job.is_shifted(item.0 as usize) {
-        return expect_item(job, store, item, &job.cell_of(item, found), found);
+    if !job.is_shifted(item.0 as usize) {
+        return Ok(());
     }
-    Ok(())
+    let cell = &job.cell_of(item, found);
+    store.expects(cell, &job.input().items()[item.0 as usize])
 }
 
 // Asks whether the slot of a vacancy is free, if it lasts after this number of rounds.

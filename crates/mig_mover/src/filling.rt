@@ -21,6 +21,7 @@ use mig_journal::Seen;
 use mig_store::{Store, StoreFailed};
 
 // The first spot where an item is listed and the slot is used; where there is none, the store was asked whether each may be written over.
+#[tactic(auto, using(crate::proofs::Looked::two_calls, crate::proofs::Looked::failed_calls, crate::proofs::FillSteps::listed_spots))]
 fn find_taken<S: Store>(input: &Input, store: &mut S) -> Result<Option<Spot>, StoreFailed>
     requires none { flights (S.state store.old) ≡ [] }
     ensures taken { IfOk result (λ found. IfSome found (IsFirstTaken input.now (S.state store.old).reads)) }

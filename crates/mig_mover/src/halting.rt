@@ -39,12 +39,14 @@ fn erase_vacant<S: Store>(
     Ok(())
 }
 
-// Erases the named slots that are free after this number of rounds.
+// Erases the named slots that are free after this number of rounds, and syncs.
 fn erase_free<S: Store>(job: &Job, store: &mut S, found: u32) -> Result<(), StoreFailed>
     requires most { found ≤ length job.now.plan }
     requires asked { AreAsked S.asked job.now }
     requires none { flights (S.state store.old) ≡ [] }
     ensures erased { OnOk result (AreErased job.now found (S.state store.new).reads) }
+    ensures settled { OnOk result (IsSettled (S.state store.new)) }
+    ensures landed { OnOk result (flights (S.state store.new) ≡ []) }
     ensures change { ChangesOnly (IsFreeSlot job.now.input job.now.plan found) (S.state store.old) (S.state store.new) }
     ensures cause { HasGround S.refuses (¬ IsSeen job.now (S.seen store.old) (S.state store.old).reads found) (S.state store.old) (S.state store.new) result }
     ensures valid { IsTask job.now }
@@ -52,7 +54,7 @@ fn erase_free<S: Store>(job: &Job, store: &mut S, found: u32) -> Result<(), Stor
     for v in job.vacancies() {
         erase_vacant(job, store, v, found)?;
     }
-    Ok(())
+    store.sync()
 }
 
 /// Closes a migration that stands after `found` rounds, as `stand` said: writes zeros to each slot that an item has
@@ -78,7 +80,6 @@ pub fn halt<S: Store>(job: &Job, store: &mut S, found: u32) -> Result<(), MoveFa
     ensures later { (S.state store.old).faults ≤ (S.state store.new).faults }
 {
     erase_free(job, store, found)?;
-    store.sync()?;
     disarm(store)?;
     Ok(())
 }

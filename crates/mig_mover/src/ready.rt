@@ -55,6 +55,7 @@ fn find_lost<S: Store>(job: &Job, store: &mut S) -> Result<Option<ItemId>, Store
 }
 
 // The first target that is free now and used.
+#[tactic(auto, using(crate::proofs::Looked::two_calls, crate::proofs::Looked::failed_calls, crate::proofs::TargetLaws::targets))]
 fn find_used<S: Store>(job: &Job, store: &mut S) -> Result<Option<Spot>, StoreFailed>
     requires none { flights (S.state store.old) ≡ [] }
     ensures used { IfOk result (λ found. IfSome found (IsFirstUsed job.now.input job.now.plan (S.state store.old).reads)) }

@@ -14,11 +14,10 @@ ghost use Rattle.mig_store.specs.Grounds.{FailedOr};
 ghost use Rattle.mig_mover.specs.Stands.{IsOtherFault, Stands, IsStandFault};
 ghost use Rattle.mig_base.specs.Tasks.{Task};
 
-use crate::entries::{check_plan, settle_and_look};
-use crate::expecting::expect_all;
+use crate::entries::{check_plan, expect_marked, settle_and_look};
 use crate::faults::MoveFault;
 use mig_jobs::Job;
-use mig_journal::{Seen, marked};
+use mig_journal::Seen;
 use mig_store::Store;
 
 // Counts the marked rounds of the plan that the journal names, where it is the job's, and asks the store for each item that the plan shifts.
@@ -35,9 +34,7 @@ fn stand_running<S: Store>(job: &Job, store: &mut S, kept: &[u8; 32]) -> Result<
     ensures later { (S.state store.old).faults ≤ (S.state store.new).faults }
 {
     check_plan(job, kept)?;
-    let k = marked(store, job.rounds())?;
-    expect_all(job, store, k)?;
-    Ok(k)
+    Ok(expect_marked(job, store)?)
 }
 
 /// How many rounds of a plan that is being carried out, or was, are marked.

@@ -1,25 +1,21 @@
 -- How many rows there are, of each item and of all.
-use Rattle.mig_base.proofs.Common.{Bool, List, [], add-one, ap, arith, cond, count_by, false, get_or, is_of, is_relocated, length, length-append, map}
-use Rattle.mig_base.proofs.Common.{not, range_with_len, refl, subst, suc, sum_by, sum_by-append, sum_by-cons, take, take_all, true, zero, ℕ}
-use Rattle.mig_base.proofs.Common.{◌+◌, ◌<◌, ◌==◌, ◌∙◌, ◌∷◌, ◌≡◌, ◌≤◌}
-use Rattle.mig_base.proofs.Counting.{sum_by-map}
-use Rattle.mig_base.proofs.Common.{length-map-range_with_len, no_spot, shift_count}
-use Rattle.mig_base.specs.Layouts.{round_at}
-use Rattle.mig_base.specs.MadePlans.{IsPlanOf}
-use Rattle.mig_base.specs.declared.ids.DiskId.{DiskId}
-use Rattle.mig_base.specs.declared.ids.Shift.{Shift}
-use Rattle.mig_base.specs.declared.ids.Spot.{Spot}
+use Rattle.mig_numbers.proofs.Common.{Bool, Bound, Cert, DiskId, DiskNumbers, IsPlanOf, ItemNumbers, List, Nothing, Shift, ShiftNumbers, Spot, []}
+use Rattle.mig_numbers.proofs.Common.{add-one, ap, arith, bound_value, class_number, cond, count_by, false, few_shifts, found_by, found_of, get_or}
+use Rattle.mig_numbers.proofs.Common.{get_or-map, input_of, is_of, is_relocated, is_row_of, length, length-append, length-map}
+use Rattle.mig_numbers.proofs.Common.{length-map-range_with_len, made_item, map, next_of, no_item, no_spot, not, plan_rows, refl, round_at, row_of}
+use Rattle.mig_numbers.proofs.Common.{rows_for, rows_upto, shift_count, spot_of, subst, suc, sum_by, sum_by-append, sum_by-cons, sum_by-map}
+use Rattle.mig_numbers.proofs.Common.{sum_by_more, take, take_all, true, zero, ℕ, ◌+◌, ◌<◌, ◌==◌, ◌∙◌, ◌∷◌, ◌≡◌, ◌≤◌}
 use Rattle.mig_numbers.proofs.Rows.{rows_next}
-use Rattle.mig_numbers.specs.Handed.{is_row_of, plan_rows, row_of, rows_for, rows_upto}
-use Rattle.mig_gen.specs.MadeCases.{made_item}
-use Rattle.mig_numbers.specs.Numbers.{input_of, next_of, no_item, spot_of}
-use Rattle.mig_numbers.specs.declared.numbers.DiskNumbers.{DiskNumbers}
-use Rattle.mig_numbers.specs.declared.numbers.ItemNumbers.{ItemNumbers}
-use Rattle.mig_numbers.specs.declared.numbers.ShiftNumbers.{ShiftNumbers}
 use Rattle.mig_text.proofs.PlanLengths.{shifts_in}
-use Rattle.mig_text.proofs.ShiftCounts.{few_shifts}
-use Rattle.std.proofs.lemmas.List.{get_or-map, length-map}
-use Rattle.std.proofs.lemmas.List.Sums.{sum_by_more}
+
+-- what the numbers of a certificate tell
+pub found_is : (cert : Cert) → ((found_of cert).rounds ≡ cert.rounds) × ((found_of cert).value ≡ bound_value cert.bound)
+found_is cert = by cert.bound
+  where
+    by : (bound : Bound) → ((found_by cert.rounds cert.quotient (class_number cert.class) bound).rounds ≡ cert.rounds)
+        × ((found_by cert.rounds cert.quotient (class_number cert.class) bound).value ≡ bound_value bound)
+    by Nothing = (refl, refl)
+    by _ = (refl, refl)
 
 rows_count : (plan : List (List Shift)) (i n : ℕ) → n ≤ length plan → count_by (is_row_of i) (rows_upto plan n) ≡ shift_count (take n plan) i
 rows_count plan i zero h = refl
@@ -90,11 +86,8 @@ relocated_by split disks items i lt =
     ∙ turned (item.disk == item.next_disk)
 
 module _ (split : Bool) (disks : List DiskNumbers) (items : List ItemNumbers) (plan : List (List Shift)) (made : IsPlanOf (input_of split disks items) plan) where
-  items_len : length (map made_item (range_with_len 0 (length items))) ≡ length items
-  items_len = length-map-range_with_len made_item 0 (length items)
-
   pub once_shift : (i : ℕ) → i < length items → shift_count plan i ≡ rows_for (get_or items i no_item)
-  once_shift i lt = made.once i (omega (arith, lt, items_len)) ∙ relocated_by split disks items i lt
+  once_shift i lt = made.once i (omega (arith, lt, length-map-range_with_len made_item 0 (length items))) ∙ relocated_by split disks items i lt
 
   pub once_rows : (i : ℕ) → i < length items → count_by (is_row_of i) (plan_rows plan) ≡ rows_for (get_or items i no_item)
   once_rows i lt = all_count plan i ∙ once_shift i lt
@@ -102,4 +95,4 @@ module _ (split : Bool) (disks : List DiskNumbers) (items : List ItemNumbers) (p
   pub few_rows : length (plan_rows plan) ≤ length items
   few_rows =
       let few = few_shifts (input_of split disks items) plan made.once made.fits.shifts in
-      omega (arith, few, in_all plan, items_len, all_len plan)
+      omega (arith, few, in_all plan, length-map-range_with_len made_item 0 (length items), all_len plan)

@@ -1,22 +1,11 @@
 -- Numbers that are sound stand for an input.
-use Rattle.mig_base.proofs.Common.{Bool, IsDiskInRange, IsInput, IsName, IsSomeAnd, IsSpotOf, List, Option, Some, [], ap, arith, false, get_or, get_or-map-range_with_len, get_or-take, inl, inr, is_duplex, is_split, length}
-use Rattle.mig_base.proofs.Common.{cases_lt, length-map-range_with_len, map, map-append, no_disk, range_with_len, refl, slice_get, slice_get-get_or, subst, sym, take, true, ℕ, ◌++◌, ◌+◌, ◌<◌, ◌∙◌, ◌∷◌, ◌≡◌, ◌≢◌}
-use Rattle.mig_base.proofs.Elements.{range_more}
-use Rattle.mig_base.specs.declared.ids.Spot.{Spot}
-use Rattle.mig_base.specs.declared.inputs.Disk.{Disk}
-use Rattle.mig_gen.proofs.MadeNames.{numbered_is_name, same_number}
-use Rattle.mig_gen.proofs.MadeLists.{all_of, pairs_of}
-use Rattle.mig_gen.specs.MadeCases.{made_item}
-use Rattle.mig_numbers.proofs.Lists.{all_in, pairs_in, next_taken}
-use Rattle.mig_numbers.specs.Numbers.{disk_in, input_of, limits_of, next_of, no_item, no_numbers, spot_of}
-use Rattle.mig_numbers.specs.Refusals.{AreDisksSound, AreFew, AreItemsSound, IsItemSound}
-use Rattle.mig_numbers.specs.declared.numbers.DiskNumbers.{DiskNumbers}
-use Rattle.mig_numbers.specs.declared.numbers.ItemNumbers.{ItemNumbers}
-use Rattle.std.proofs.lemmas.List.{get_or-map, get_or_default, length-map, length-take}
-
-pub disks_next : (split : Bool) (disks : List DiskNumbers) (k : ℕ) (made : List Disk) → made ≡ map (disk_in split disks) (range_with_len 0 k)
-    → made ++ disk_in split disks k ∷ [] ≡ map (disk_in split disks) (range_with_len 0 (k + 1))
-disks_next split disks k made e = ap (λ xs. xs ++ disk_in split disks k ∷ []) e ∙ sym (ap (map (disk_in split disks)) (range_more k) ∙ map-append (disk_in split disks) (range_with_len 0 k) (k ∷ []))
+use Rattle.mig_numbers.proofs.Common.{AreDisksSound, AreFew, AreItemsSound, Bool, Disk, DiskNumbers, IsDiskInRange, IsInput, IsItemSound, IsName}
+use Rattle.mig_numbers.proofs.Common.{IsSomeAnd, IsSpotOf, ItemNumbers, List, Option, Some, Spot, [], all_of, ap, arith, cases_lt, disk_in, false}
+use Rattle.mig_numbers.proofs.Common.{get_or, get_or-map, get_or-map-range_with_len, get_or-take, get_or_default, inl, input_of, inr, is_duplex}
+use Rattle.mig_numbers.proofs.Common.{is_split, length, length-map, length-map-range_with_len, length-take, limits_of, made_item, map, map-append}
+use Rattle.mig_numbers.proofs.Common.{next_of, no_disk, no_item, no_numbers, numbered_is_name, pairs_of, range_with_len, refl, same_number, slice_get}
+use Rattle.mig_numbers.proofs.Common.{slice_get-get_or, spot_of, subst, sym, take, true, ℕ, ◌++◌, ◌+◌, ◌<◌, ◌∙◌, ◌∷◌, ◌≡◌, ◌≢◌}
+use Rattle.mig_numbers.proofs.Lists.{all_in, next_taken, pairs_in}
 
 pub spots_next : (items : List ItemNumbers) (k : ℕ) (taken : List Spot) (item : ItemNumbers) → taken ≡ map spot_of (take k items) → k < length items → item ≡ get_or items k item
     → taken ++ spot_of item ∷ [] ≡ map spot_of (take (k + 1) items)

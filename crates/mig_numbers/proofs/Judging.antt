@@ -1,33 +1,16 @@
 -- From what is judged of an input, a plan and a certificate to what is said of the numbers that spell them.
-use Rattle.mig_base.proofs.Common.{Bool, List, length, subst, sym, ℕ, ◌≡◌}
-use Rattle.mig_base.specs.Bounding.{bound_value}
-use Rattle.mig_base.specs.Certificates.{CertFits, CertHolds}
-use Rattle.mig_base.specs.InputLists.{InputLists}
-use Rattle.mig_base.specs.Judging.{FirstBlame}
-use Rattle.mig_base.specs.Running.{Once, PlanFits, Runs}
-use Rattle.mig_base.specs.Schedules.{Needs}
-use Rattle.mig_base.specs.declared.blames.Blame.{Blame}
-use Rattle.mig_base.specs.declared.certs.Cert.{Cert}
-use Rattle.mig_base.specs.declared.ids.Shift.{Shift}
+use Rattle.mig_numbers.proofs.Common.{AreRightNumbers, AreRowsSound, AreSound, AreSpelled, Blame, Bool, Cert, CertHolds, DiskNumbers, FirstBlame}
+use Rattle.mig_numbers.proofs.Common.{Found, HasNoFault, InputLists, IsBlamed, IsFoundSound, ItemNumbers, Judged, List, Needs, Once, PlanFits, Runs}
+use Rattle.mig_numbers.proofs.Common.{Shift, ShiftNumbers, blame_by, bound_value, cert_by, input_of, length, plan_by, right, subst, sym, ℕ, ◌≡◌}
 use Rattle.mig_numbers.proofs.Named.{alike_by, first_blame, no_fault}
 use Rattle.mig_numbers.proofs.SortedRows.{plan_fits}
-use Rattle.mig_numbers.specs.Judged.{AreRightNumbers, AreRowsSound, AreSpelled, HasNoFault, IsBlamed, IsFoundSound, blame_by, cert_by, plan_by, right}
-use Rattle.mig_numbers.specs.Numbers.{input_of}
-use Rattle.mig_numbers.specs.Refusals.{AreSound}
-use Rattle.mig_numbers.specs.declared.numbers.DiskNumbers.{DiskNumbers}
-use Rattle.mig_numbers.specs.declared.numbers.Found.{Found}
-use Rattle.mig_numbers.specs.declared.numbers.ItemNumbers.{ItemNumbers}
-use Rattle.mig_numbers.specs.declared.numbers.Judged.{Judged}
-use Rattle.mig_numbers.specs.declared.numbers.ShiftNumbers.{ShiftNumbers}
 
-module _ (split : Bool) (disks : List DiskNumbers) (items : List ItemNumbers) (rows : List ShiftNumbers) (set : List ℕ) (found : Found) (input : InputLists) (plan : List (List Shift)) (cert : Cert)
+module _ {split : Bool} {disks : List DiskNumbers} {items : List ItemNumbers} (rows : List ShiftNumbers) {set : List ℕ} {found : Found}
+    {input : InputLists} {plan : List (List Shift)} {cert : Cert} (sound : AreSound split disks items) (found_sound : IsFoundSound input set found)
     (is_input : input ≡ input_of split disks items) (is_plan : plan ≡ plan_by items rows found.rounds) (is_cert : cert ≡ cert_by found set)
-    (sound : AreSound split disks items) (found_sound : IsFoundSound input set found) (rows_sound : AreRowsSound disks items found.rounds rows (length rows)) where
+    (rows_sound : AreRowsSound disks items found.rounds rows (length rows)) where
   pub fits : PlanFits input plan
   fits = subst (λ (i : InputLists). PlanFits i plan) (sym is_input) (subst (PlanFits (input_of split disks items)) (sym is_plan) (plan_fits split disks items rows found.rounds found_sound.few sound rows_sound))
-
-  pub cert_fits : CertFits input cert
-  cert_fits = subst (CertFits input) (sym is_cert) found_sound.fits
 
   -- what holds of these holds of those that the numbers spell
   spelled_by : (P : InputLists → List (List Shift) → Cert → Type 0) → P input plan cert → P (input_of split disks items) (plan_by items rows found.rounds) (cert_by found set)

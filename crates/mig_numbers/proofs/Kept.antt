@@ -1,42 +1,21 @@
 -- What a plan's rows keep: whose they are, where they go, and the limits of each round.
-use Rattle.mig_base.proofs.Common.{All, All-append, All-contains, All-filter, All-map, Bool, Contains, Contains-append_cases, Contains-append_left, Contains-append_right, InputLists, IsLowestFree, IsMoveShift, List}
-use Rattle.mig_base.proofs.Common.{[], add-one, ap, append-nil, arith, cases_lt, cond, false, filter, filter-append, filter_passes, get_or, get_or-take, inl, inr, is_relocated, length, length-map-range_with_len, length-take-le, map}
-use Rattle.mig_base.proofs.Common.{move_at, moves, nat_tests, no_spot, refl, round_at, shift_count, source, subst, suc, sym, take, target, target_at, transfer_of, true, zero, ℕ, ⊎_elim, ◌++◌, ◌+◌, ◌<◌, ◌==◌, ◌∙◌, ◌∷◌, ◌≡◌, ◌≤◌}
+use Rattle.mig_numbers.proofs.Common.{All, All-append, All-contains, All-filter, All-map, All-nil, AreRows, AreSound, Bool, Cert, Contains}
+use Rattle.mig_numbers.proofs.Common.{Contains-append_cases, Contains-append_left, Contains-append_right, Contains-get_or, Disk, DiskId, DiskNumbers}
+use Rattle.mig_numbers.proofs.Common.{Found, InputLists, IsCertified, IsLowestFree, IsMoveShift, IsPlanOf, IsPlanned, IsRow, ItemNumbers, KeepsLimit}
+use Rattle.mig_numbers.proofs.Common.{List, Needs, Shift, ShiftNumbers, Spot, Transfer, [], add-one, ap, append-nil, arith, cases_lt, cond, disk_in}
+use Rattle.mig_numbers.proofs.Common.{false, filter, filter-append, filter_passes, found_of, get_or, get_or-map, get_or-take, get_or_default, inl}
+use Rattle.mig_numbers.proofs.Common.{input_of, inr, is_before, is_in_round, is_relocated, length, length-map, length-map-range_with_len}
+use Rattle.mig_numbers.proofs.Common.{length-take-le, limits_of, lowest_at, lt-ltb, ltb-true, made_item, map, map_same, move_at, move_relocated}
+use Rattle.mig_numbers.proofs.Common.{move_there, moves, nat_tests, next_of, no_item, no_numbers, no_spot, one_all, plan_rows, refl, round_at, row_of}
+use Rattle.mig_numbers.proofs.Common.{row_spot, row_transfer, rows_upto, set_in, shift_count, shifted_first, shifted_round, source, spot_of, subst}
+use Rattle.mig_numbers.proofs.Common.{suc, sym, take, target, target_at, transfer_of, true, zero, ℕ, ⊎_elim, ◌++◌, ◌+◌, ◌<◌, ◌==◌, ◌∙◌, ◌∷◌, ◌≡◌, ◌≤◌}
 use Rattle.mig_base.proofs.Components.{increasing_filter}
-use Rattle.mig_base.proofs.Planned.{move_relocated, move_there}
-use Rattle.mig_base.proofs.Room.{lowest_at}
-use Rattle.mig_base.proofs.Scheduled.{shifted_first, shifted_round}
-use Rattle.mig_base.specs.MadePlans.{IsPlanOf}
-use Rattle.mig_base.specs.Schedules.{Needs}
-use Rattle.mig_base.specs.Transfers.{KeepsLimit, Transfer}
-use Rattle.mig_base.specs.declared.certs.Cert.{Cert}
-use Rattle.mig_base.specs.declared.ids.DiskId.{DiskId}
-use Rattle.mig_base.specs.declared.ids.Shift.{Shift}
-use Rattle.mig_base.specs.declared.ids.Spot.{Spot}
-use Rattle.mig_base.specs.declared.inputs.Disk.{Disk}
-use Rattle.mig_best.specs.Certified.{IsCertified}
-use Rattle.mig_gen.specs.MadeCases.{made_item}
-use Rattle.mig_numbers.proofs.Counts.{once_rows}
-use Rattle.mig_numbers.proofs.Founds.{found_rounds, found_value}
+use Rattle.mig_numbers.proofs.Counts.{found_is, once_rows}
 use Rattle.mig_numbers.proofs.Inputs.{made_at}
 use Rattle.mig_numbers.proofs.Lists.{map_map}
 use Rattle.mig_numbers.proofs.Rows.{rows_next}
-use Rattle.mig_numbers.specs.Handed.{AreRows, IsPlanned, IsRow, found_of, is_before, is_in_round, plan_rows, row_of, row_spot, row_transfer, rows_upto, set_in}
-use Rattle.mig_numbers.specs.Numbers.{disk_in, input_of, limits_of, next_of, no_item, no_numbers, spot_of}
-use Rattle.mig_numbers.specs.Refusals.{AreSound}
-use Rattle.mig_numbers.specs.declared.numbers.DiskNumbers.{DiskNumbers}
-use Rattle.mig_numbers.specs.declared.numbers.Found.{Found}
-use Rattle.mig_numbers.specs.declared.numbers.ItemNumbers.{ItemNumbers}
-use Rattle.mig_numbers.specs.declared.numbers.ShiftNumbers.{ShiftNumbers}
-use Rattle.std.proofs.lemmas.Bool.{lt-ltb, ltb-true}
-use Rattle.std.proofs.lemmas.List.{get_or-map, get_or_default, length-map}
-use Rattle.std.proofs.lemmas.List.Elements.{All-head, All-nil, All-tail, Contains-get_or}
 
 -- Lists
-
-single : {X : Type 0} (x y : X) (k : ℕ) → k < 1 → get_or (x ∷ []) k y ≡ y → x ≡ y
-single x y zero lt e = e
-single x y (suc k) lt e = absurd (omega (arith, lt))
 
 kept_rest : {X : Type 0} (b : Bool) (x y : X) (xs : List X) → Contains xs y → Contains (cond b (x ∷ xs) xs) y
 kept_rest true x y xs h = Contains-append_right (x ∷ []) xs y h
@@ -46,19 +25,13 @@ contains_filter : {X : Type 0} (p : X → Bool) (xs : List X) (y : X) → Contai
 contains_filter p [] y h t = absurd (omega (arith, h.1))
 contains_filter {X} p (x ∷ xs) y h t = ⊎_elim
     (λ one.
-    let same : x ≡ y = single x y one.0 one.1 one.2 in
+    let same : x ≡ y = All-contains (λ z. x ≡ z) (x ∷ []) y (one_all (λ z. x ≡ z) x refl) one in
     subst (λ (b : Bool). Contains (cond b (x ∷ filter p xs) (filter p xs)) y) (sym (ap p same ∙ t)) (0, omega arith, same))
     (λ more. kept_rest (p x) x y (filter p xs) (contains_filter p xs y more t))
     (Contains-append_cases (x ∷ []) xs y h)
 
 contains_map : {X Y : Type 0} (f : X → Y) (xs : List X) (x : X) → Contains xs x → Contains (map f xs) (f x)
 contains_map f xs x h = (h.0, omega (arith, h.1, length-map xs f), get_or-map f xs h.0 x (f x) h.1 ∙ ap f h.2)
-
-map_same : {X Y : Type 0} (f g : X → Y) (xs : List X) → All (λ x. f x ≡ g x) xs → map f xs ≡ map g xs
-map_same f g [] h = refl
-map_same {X} f g (x ∷ xs) h =
-    let P : X → Type 0 = λ x. f x ≡ g x in
-    ap (λ y. y ∷ map f xs) (All-head P x xs h) ∙ ap (λ ys. g x ∷ ys) (map_same f g xs (All-tail P x xs h))
 
 -- The rows of rounds
 
@@ -200,14 +173,14 @@ module _ (split : Bool) (disks : List DiskNumbers) (items : List ItemNumbers) (p
       let less : row.item < move_at input move = ltb-true row.item (move_at input move) (filter_passes before rows i d lt) in
       let low : r.move < move = elim (cases_lt r.move move) [
         | inl less_too ↦ less_too
-        | inr ge ↦ elim (cases_lt move r.move) [ inl more ↦ absurd (omega (arith, less, r.item_is, ascending move r.move more r.within)) | inr le ↦ absurd (omega (arith, less, r.item_is, ap (move_at input) (omega_same move r.move ge le))) ]
+        | inr ge ↦ elim (cases_lt move r.move) [
+          | inl more ↦ absurd (omega (arith, less, r.item_is, ascending move r.move more r.within))
+          | inr le ↦ let same : move ≡ r.move = omega (arith, ge, le) in absurd (omega (arith, less, r.item_is, ap (move_at input) same))
+        ]
       ] in
       let len = made.targets.1.len in
       let long = length-take-le move targets (omega (arith, len, within)) in
       subst (Contains (take move targets)) (get_or-take move targets r.move no_spot low ∙ sym r.spot_is) (Contains-get_or (take move targets) r.move no_spot (omega (arith, low, long))))
-    where
-      omega_same : (a b : ℕ) → a ≤ b → b ≤ a → a ≡ b
-      omega_same a b h l = omega (arith, h, l)
 
   -- an earlier target is that of the row of an earlier item
   forth : (move : ℕ) (x : Spot) → move < length (moves input) → Contains (take move targets) x → Contains (map row_spot (filter (is_before (move_at input move)) rows)) x
@@ -282,7 +255,7 @@ module _ (split : Bool) (disks : List DiskNumbers) (items : List ItemNumbers) (p
 pub planned : (split : Bool) (disks : List DiskNumbers) (items : List ItemNumbers) (plan : List (List Shift)) (cert : Cert) (found : Found) → AreSound split disks items → IsCertified (input_of split disks items) plan cert → found ≡ found_of cert
     → IsPlanned split disks items (plan_rows plan) (set_in cert.bound) found
 planned split disks items plan cert found sound made is =
-    let rounds : found.rounds ≡ length plan = ap (λ (f : Found). f.rounds) is ∙ found_rounds cert ∙ made.holds.rounds in
+    let rounds : found.rounds ≡ length plan = ap (λ (f : Found). f.rounds) is ∙ (found_is cert).0 ∙ made.holds.rounds in
     record {
       sound = sound;
       rounds = plan;
@@ -292,5 +265,5 @@ planned split disks items plan cert found sound made is =
       set_is = refl;
       found_is = is;
       keeps = subst (AreRows split disks items (plan_rows plan)) (sym rounds) (are_rows split disks items plan made.planned sound);
-      needs = subst (Needs (input_of split disks items)) (sym (ap (λ (f : Found). f.value) is ∙ found_value cert)) made.needs;
+      needs = subst (Needs (input_of split disks items)) (sym (ap (λ (f : Found). f.value) is ∙ (found_is cert).1)) made.needs;
     }

@@ -1,10 +1,9 @@
+pub mod Common
 pub mod Counts
-pub mod Founds
 pub mod Inputs
 pub mod Judging
 pub mod Kept
 pub mod Lists
-pub mod Marks
 pub mod Named
 pub mod Rows
 pub mod Scheduled

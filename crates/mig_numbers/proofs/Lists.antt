@@ -1,6 +1,6 @@
 -- Lists by their elements.
-use Rattle.mig_base.proofs.Common.{All, AllPairs, List, [], ap, arith, get_or, length, map, refl, subst, sym, take, ℕ, ◌++◌, ◌+◌, ◌<◌, ◌∙◌, ◌∷◌, ◌≡◌}
-use Rattle.std.proofs.lemmas.List.{get_or-map, length-map, take_more}
+use Rattle.mig_numbers.proofs.Common.{All, AllPairs, List, [], ap, arith, get_or, get_or-map, length, length-map, map, map-append, range_more}
+use Rattle.mig_numbers.proofs.Common.{range_with_len, refl, subst, sym, take, take_more, ℕ, ◌++◌, ◌+◌, ◌<◌, ◌∙◌, ◌∷◌, ◌≡◌}
 
 -- what is so of each element of a list is so of the list that is made of it, and the same of two
 module _ {A X : Type 0} (f : A → X) (xs : List A) (z : A) where
@@ -18,6 +18,10 @@ module _ {A X : Type 0} (f : A → X) (xs : List A) (z : A) where
 -- so many elements, and one more
 pub next_taken : {X : Type 0} (xs : List X) (k : ℕ) (x : X) → k < length xs → x ≡ get_or xs k x → take (k + 1) xs ≡ take k xs ++ x ∷ []
 next_taken xs k x lt e = take_more xs k x lt ∙ ap (λ z. take k xs ++ z ∷ []) (sym e)
+
+pub next_made : {X : Type 0} (f : ℕ → X) (k : ℕ) (made : List X) → made ≡ map f (range_with_len 0 k)
+    → made ++ f k ∷ [] ≡ map f (range_with_len 0 (k + 1))
+next_made f k made e = ap (λ xs. xs ++ f k ∷ []) e ∙ sym (ap (map f) (range_more k) ∙ map-append f (range_with_len 0 k) (k ∷ []))
 
 pub map_map : {X Y Z : Type 0} (f : Y → Z) (g : X → Y) (xs : List X) → map f (map g xs) ≡ map (λ x. f (g x)) xs
 map_map f g [] = refl

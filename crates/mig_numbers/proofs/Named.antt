@@ -1,31 +1,17 @@
 -- Inputs that differ in names alone are judged alike.
-use Rattle.mig_base.proofs.Common.{All, At, Bool, CertHolds, FirstBlame, InputLists, IsArrivedAt, IsFirstShift, IsLegal, IsSo, IsSomeAnd, IsSpotOf, IsTrue, KeepsLimit, KeepsLimits, Layout, List, Needs, None, Once, Option, Runs, Some, Transfer, [], after_shifts, ap, arith, bound_value, class_of, cond, disk_at, div_ceil, fill_by_all, filter, get_or, inl, inr, inside, is_relocated, is_split, length, length-map, length-map-range_with_len, load, map, most_ends, moves, no_disk, no_spot, not, numbers, quotient, range_with_len, refl, round_at, rounds_for, shift_at, side_limit, side_load, slice_get, stated_load, subst, suc, sum_by, sym, transfer_graph, transfer_of, transfers, transfers_in, zero, ℕ, ⊎_elim, ◌%◌, ◌-◌, ◌/◌, ◌<◌, ◌==◌, ◌||◌, ◌∙◌, ◌∷◌, ◌≡◌, ◌≢◌, ◌≤◌, ◌⊎◌}
-use Rattle.mig_base.specs.Bounding.{counted_load, counted_value, greatest}
-use Rattle.mig_base.specs.Judging.{Differ, EndsElsewhere, IsLeast, IsMovedTooOften, IsOver, LacksSlot, LeavesElsewhere}
-use Rattle.mig_base.specs.Transfers.{IsOverLimit}
-use Rattle.mig_base.specs.declared.blames.Blame.{Blame}
-use Rattle.mig_base.specs.declared.blames.Blame.TheVariants.{ClassDiffers, EmptyRound, LoadDiffers, Memory, MovedTooOften, NotHere, OverLimit, QuotientDiffers, RoundsDiffer, SlotNotFree, TwiceInRound, ValueDiffers, WrongEnd}
-use Rattle.mig_base.specs.declared.certs.Bound.{Bound}
-use Rattle.mig_base.specs.declared.certs.Bound.TheVariants.{Nothing, OfDisk, OfSet, OfSide}
-use Rattle.mig_base.specs.declared.certs.Cert.{Cert}
-use Rattle.mig_base.specs.declared.certs.Class.{Class}
-use Rattle.mig_base.specs.declared.certs.Class.TheVariants.{Duplex, Even, General}
-use Rattle.mig_base.specs.declared.ids.DiskId.{DiskId}
-use Rattle.mig_base.specs.declared.ids.Shift.{Shift}
-use Rattle.mig_base.specs.declared.ids.Spot.{Spot}
-use Rattle.mig_base.specs.declared.inputs.Disk.{Disk}
-use Rattle.mig_base.specs.declared.inputs.Limits.{Limits}
+use Rattle.mig_numbers.proofs.Common.{All, At, Blame, Bool, Bound, Cert, CertHolds, Class, ClassDiffers, Differ, Disk, DiskId, DiskNumbers, Duplex}
+use Rattle.mig_numbers.proofs.Common.{EndsElsewhere, Even, FirstBlame, General, HasNoFault, InputLists, IsArrivedAt, IsFirstShift, IsLeast, IsLegal}
+use Rattle.mig_numbers.proofs.Common.{IsMovedTooOften, IsOver, IsOverLimit, IsSo, IsSomeAnd, IsSpotOf, IsTrue, ItemNumbers, KeepsLimit, KeepsLimits}
+use Rattle.mig_numbers.proofs.Common.{LacksSlot, Layout, LeavesElsewhere, Limits, List, LoadDiffers, MovedTooOften, Needs, None, NotHere, Nothing}
+use Rattle.mig_numbers.proofs.Common.{OfDisk, OfSet, OfSide, Once, Option, OverLimit, QuotientDiffers, Runs, Shift, SlotNotFree, Some, Spot, StandFor}
+use Rattle.mig_numbers.proofs.Common.{Transfer, ValueDiffers, WrongEnd, [], after_shifts, ap, arith, bound_value, class_of, cond, counted_load}
+use Rattle.mig_numbers.proofs.Common.{counted_value, disk_at, disk_in, div_ceil, fill_by_all, filter, fun_ext, get_or, get_or-map, greatest, inl}
+use Rattle.mig_numbers.proofs.Common.{input_of, inr, inside, is_relocated, is_split, length, length-map, length-map-range_with_len, list_all, load}
+use Rattle.mig_numbers.proofs.Common.{made_item, map, most_ends, moves, no_disk, no_numbers, no_spot, not, numbers, option_map, quotient}
+use Rattle.mig_numbers.proofs.Common.{range_with_len, refl, round_at, rounds_for, shape, shape_by, shift_at, side_limit, side_load, slice_get}
+use Rattle.mig_numbers.proofs.Common.{slice_get-map, stated_load, subst, suc, sum_by, sym, transfer_graph, transfer_of, transfers, transfers_in, zero}
+use Rattle.mig_numbers.proofs.Common.{ℕ, ⊎_elim, ◌%◌, ◌-◌, ◌/◌, ◌<◌, ◌==◌, ◌||◌, ◌∙◌, ◌∷◌, ◌≡◌, ◌≢◌, ◌≤◌, ◌⊎◌}
 use Rattle.mig_numbers.proofs.Lists.{map_map}
-use Rattle.mig_numbers.specs.Judged.{HasNoFault, StandFor, shape, shape_by}
-use Rattle.mig_numbers.specs.Numbers.{disk_in, input_of, no_numbers}
-use Rattle.mig_numbers.specs.declared.numbers.DiskNumbers.{DiskNumbers}
-use Rattle.mig_numbers.specs.declared.numbers.ItemNumbers.{ItemNumbers}
-use Rattle.mig_gen.specs.MadeCases.{made_item}
-use Rattle.std.proofs.Math.Path.{fun_ext}
-use Rattle.std.proofs.lemmas.List.{get_or-map}
-use Rattle.std.proofs.lemmas.Option.{slice_get-map}
-use Rattle.std.specs.List.{list_all}
-use Rattle.std.specs.Option.{option_map}
 
 -- inputs that differ in names alone
 pub record AreAlike (a b : InputLists) : Type 0 where
@@ -33,6 +19,9 @@ pub record AreAlike (a b : InputLists) : Type 0 where
   pub items : length a.items ≡ length b.items
   pub spots : a.spots ≡ b.spots
   pub next : a.next ≡ b.next
+
+turn : (a b : InputLists) → AreAlike a b → AreAlike b a
+turn a b alike = record { disks = sym alike.disks; items = sym alike.items; spots = sym alike.spots; next = sym alike.next }
 
 shape_at : (ds : List Disk) (v : ℕ) → shape (get_or ds v no_disk) ≡ get_or (map shape ds) v (shape no_disk)
 shape_at [] v = refl
@@ -143,8 +132,8 @@ module _ (a b : InputLists) (alike : AreAlike a b) where
 
 -- and back
 module _ (a b : InputLists) (alike : AreAlike a b) where
-  abbrev back : AreAlike b a
-  back = record { disks = sym alike.disks; items = sym alike.items; spots = sym alike.spots; next = sym alike.next }
+  back : AreAlike b a
+  back = turn a b alike
 
   needs : (n : ℕ) → Needs a n → Needs b n
   needs n h rounds round_of all obeys = h rounds round_of (subst (All (λ item. (1 ≤ round_of item) × (round_of item ≤ rounds))) (moves_same b a back) all)
@@ -165,12 +154,10 @@ module _ (a b : InputLists) (alike : AreAlike a b) where
 -- what is so of one is so of the other
 module _ (a b : InputLists) (alike : AreAlike a b) where
   other : AreAlike b a
-  other = record { disks = sym alike.disks; items = sym alike.items; spots = sym alike.spots; next = sym alike.next }
+  other = turn a b alike
 
   so : (plan : List (List Shift)) (cert : Cert) (blame : Blame) → IsSo a plan cert blame → IsSo b plan cert blame
-  so plan cert (EmptyRound r) h = h
   so plan cert (NotHere r item) h = (h.0, subst (λ (l : Layout). IsFirstShift (round_at plan r) (LeavesElsewhere l (round_at plan r)) item.0) (at_same a b alike plan (r - 1)) h.1)
-  so plan cert (TwiceInRound r item) h = h
   so plan cert (SlotNotFree r item) h =
       let round = round_at plan r in
       let f = subst (λ (l : Layout). IsFirstShift round (LacksSlot a l round) item.0) (at_same a b alike plan (r - 1)) h.1 in
@@ -180,12 +167,11 @@ module _ (a b : InputLists) (alike : AreAlike a b) where
       (h.0, omega (arith, h.1, disk_count a b alike), over a b alike (round_at plan r) disk.0 count h.2, λ v c lt o. h.3 v c lt (over b a other (round_at plan r) v c o))
   so plan cert (WrongEnd item) h = least_by (EndsElsewhere a plan) (EndsElsewhere b plan) item.0 (elsewhere a b alike plan) (elsewhere b a other plan) h
   so plan cert (MovedTooOften item count) h = (least_by (IsMovedTooOften a plan) (IsMovedTooOften b plan) item.0 (too_often a b alike plan) (too_often b a other plan) h.0, h.1)
-  so plan cert (RoundsDiffer told counted) h = h
   so plan cert (QuotientDiffers told counted) h = subst (λ n. Differ cert.quotient n told counted) (quotient_same a b alike) h
   so plan cert ClassDiffers h = subst (λ (c : Class). cert.class ≢ c) (class_same a b alike) h
   so plan cert (LoadDiffers told counted) h = subst (λ n. Differ (stated_load cert.bound) n told counted) (load_same a b alike cert.bound) h
   so plan cert (ValueDiffers told counted) h = subst (λ n. Differ (bound_value cert.bound) n told counted) (value_same a b alike cert.bound) h
-  so plan cert Memory h = h
+  so plan cert _ h = h
 
 -- and which fault is the first
 pub first_blame : (a b : InputLists) → AreAlike a b → (plan : List (List Shift)) (cert : Cert) (blame : Blame) → FirstBlame a plan cert blame → FirstBlame b plan cert blame

@@ -1,25 +1,14 @@
 -- The rounds that pairs are given are a schedule that keeps each limit.
-use Rattle.mig_base.proofs.Common.{All, Bool, IsSchedule, List, Obeys, [], ap, arith, cases_lt, cond, count_by, eq-eqb, false, filter, filter_passes, get_or, get_or-le-sum_by, get_or-map-range_with_len, inl, inr, is_of, is_relocated, length, length-map-range_with_len}
-use Rattle.mig_base.proofs.Common.{list_any, map, moves, position_or_len, range_with_len, refl, round_at, round_of, shift_count, subst, suc, sum_by-cons, sym, transfer, true, zero, ℕ, ◌+◌, ◌<◌, ◌==◌, ◌||◌, ◌∙◌, ◌∷◌, ◌≡◌, ◌≢◌, ◌≤◌}
-use Rattle.mig_base.proofs.Scheduled.{IsShiftedAt, moves_there, obeys, scheduled, shifted_first}
-use Rattle.mig_base.specs.Schedules.{Needs}
-use Rattle.mig_base.specs.Transfers.{KeepsLimits}
-use Rattle.mig_base.specs.declared.certs.Cert.{Cert}
-use Rattle.mig_base.specs.declared.ids.Shift.{Shift}
-use Rattle.mig_best.specs.Certified.{IsCertified}
-use Rattle.mig_gen.specs.MadeCases.{made_item}
-use Rattle.mig_numbers.proofs.Counts.{once_shift}
-use Rattle.mig_numbers.proofs.Founds.{found_rounds, found_value}
+use Rattle.mig_numbers.proofs.Common.{All, All-head, All-tail, AreSound, Bool, Cert, Found, IsCertified, IsSchedule, IsScheduled, IsShiftedAt}
+use Rattle.mig_numbers.proofs.Common.{ItemNumbers, KeepsLimits, LimitNumbers, List, Needs, Obeys, PairNumbers, Shift, [], ap, arith, cases_lt, cond}
+use Rattle.mig_numbers.proofs.Common.{count_by, disks_for, eq-eqb, false, filter, filter_passes, found_of, get_or, get_or-map-range_with_len, inl}
+use Rattle.mig_numbers.proofs.Common.{input_of, inr, is_of, is_relocated, item_for, items_for, length, length-map-range_with_len, list_any, made_item}
+use Rattle.mig_numbers.proofs.Common.{map, moves, moves_there, no_item, no_pair, obeys, position_or_len, range_with_len, refl, round_at, round_for}
+use Rattle.mig_numbers.proofs.Common.{round_in, round_of, rows_for, scheduled, set_in, shift_count, shifted_first, subst, suc, sum_by-cons, sym}
+use Rattle.mig_numbers.proofs.Common.{transfer, true, zero, ℕ, ◌+◌, ◌<◌, ◌==◌, ◌||◌, ◌∙◌, ◌∷◌, ◌≡◌, ◌≢◌, ◌≤◌}
+use Rattle.mig_check.proofs.Common.{get_or-le-sum_by}
+use Rattle.mig_numbers.proofs.Counts.{found_is, once_shift}
 use Rattle.mig_numbers.proofs.Inputs.{keeps}
-use Rattle.mig_numbers.specs.Handed.{found_of, rows_for, set_in}
-use Rattle.mig_numbers.specs.Numbers.{input_of, no_item}
-use Rattle.mig_numbers.specs.Refusals.{AreSound}
-use Rattle.mig_numbers.specs.Rounds.{IsScheduled, disks_for, item_for, items_for, no_pair, round_for, round_in}
-use Rattle.mig_numbers.specs.declared.numbers.Found.{Found}
-use Rattle.mig_numbers.specs.declared.numbers.ItemNumbers.{ItemNumbers}
-use Rattle.mig_numbers.specs.declared.numbers.LimitNumbers.{LimitNumbers}
-use Rattle.mig_numbers.specs.declared.numbers.PairNumbers.{PairNumbers}
-use Rattle.std.proofs.lemmas.List.Elements.{All-head, All-tail}
 
 -- Rounds that shift an item
 
@@ -88,7 +77,7 @@ module _ (split : Bool) (limits : List LimitNumbers) (pairs : List PairNumbers) 
       let there = moves_there input k d lt in
       let taken = (scheduled_once k d lt) in
       sym (each m (omega (arith, there, names, items_len)) ∙ only_round plan m taken) in
-      let count : found.rounds ≡ length plan = ap (λ (f : Found). f.rounds) is ∙ found_rounds cert ∙ made.holds.rounds in
+      let count : found.rounds ≡ length plan = ap (λ (f : Found). f.rounds) is ∙ (found_is cert).0 ∙ made.holds.rounds in
       let valid = keeps split (disks_for limits) items sound.few sound.disks_sound sound.items_sound in
       let all = scheduled input plan once in
       record {
@@ -107,7 +96,7 @@ module _ (split : Bool) (limits : List LimitNumbers) (pairs : List PairNumbers) 
             let item = get_or-map-range_with_len (item_for pairs) 0 (length pairs) i i no_item lt (omega arith) in
             let none : shift_count plan i ≡ 0 = once_shift split (disks_for limits) items plan made.planned i (omega (arith, lt, items_len)) ∙ ap rows_for item ∙ ap (λ b. cond b 0 1) (eq-eqb (get_or pairs i no_pair).from (get_or pairs i no_pair).to ends) in
             each i lt ∙ no_round plan i (length plan) none (omega arith);
-        needs = subst (Needs input) (sym (ap (λ (f : Found). f.value) is ∙ found_value cert)) made.needs;
+        needs = subst (Needs input) (sym (ap (λ (f : Found). f.value) is ∙ (found_is cert).1)) made.needs;
       }
     where
       scheduled_once : (k d : ℕ) → k < length (moves (input_of split (disks_for limits) items)) → shift_count plan (get_or (moves (input_of split (disks_for limits) items)) k d) ≡ 1

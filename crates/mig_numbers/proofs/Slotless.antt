@@ -1,23 +1,12 @@
 -- A schedule is refused for neither slots nor room: each pair has a slot of its own, and there is one for each.
-use Rattle.mig_base.proofs.Common.{Bool, List, InputLists, ap, arith, get_or, get_or-map-range_with_len, get_or-take, inl, inr, length, length-map-range_with_len, map, nat_tests, no_disk, range_with_len, refl, source, subst, suc, sym, take, target, zero, ℕ, ◌+◌, ◌<◌, ◌∙◌, ◌≡◌, ◌≤◌, ⊎_elim}
-use Rattle.mig_base.specs.InputLists.{disk_at}
-use Rattle.mig_base.specs.declared.ids.DiskId.{DiskId}
-use Rattle.mig_base.specs.declared.ids.Spot.{Spot}
-use Rattle.mig_base.specs.declared.inputs.Disk.{Disk}
-use Rattle.mig_base.specs.declared.limits.TheConstants.{MAX_SLOTS}
+use Rattle.mig_numbers.proofs.Common.{AreFew, Bool, Disk, DiskId, DiskNumbers, InputLists, IsDiskFault, IsFirstItemFault, IsNumbersRefusal, IsOfPairs}
+use Rattle.mig_numbers.proofs.Common.{IsRoomFault, IsSizeFault, ItemNumbers, LimitNumbers, List, MAX_SLOTS, NumbersRefusal, PairNumbers, Spot, ap}
+use Rattle.mig_numbers.proofs.Common.{arith, disk_at, disk_for, disk_in, disks_for, get_or, get_or-map, get_or-map-range_with_len, get_or-take, inl}
+use Rattle.mig_numbers.proofs.Common.{input_of, inr, item_for, items_for, length, length-map, length-map-range_with_len, length-take, made_item, map}
+use Rattle.mig_numbers.proofs.Common.{nat_tests, no_disk, no_item, no_numbers, range_with_len, refl, refused_of, slots_for, source, spot_of, subst}
+use Rattle.mig_numbers.proofs.Common.{suc, sym, take, target, zero, ℕ, ⊎_elim, ◌+◌, ◌<◌, ◌∙◌, ◌≡◌, ◌≤◌}
 use Rattle.mig_csv.proofs.Needs.{left_over, left_over-end, left_over-next, left_over-start}
-use Rattle.mig_csv.specs.Lists.{slots_for}
-use Rattle.mig_gen.specs.MadeCases.{made_item}
-use Rattle.mig_numbers.specs.Numbers.{disk_in, input_of, no_item, no_numbers, spot_of}
-use Rattle.mig_numbers.specs.Refusals.{AreFew, IsDiskFault, IsFirstItemFault, IsNumbersRefusal, IsRoomFault, IsSizeFault, refused_of}
-use Rattle.mig_numbers.specs.Rounds.{IsOfPairs, disk_for, disks_for, item_for, items_for}
-use Rattle.mig_numbers.specs.declared.numbers.DiskNumbers.{DiskNumbers}
-use Rattle.mig_numbers.specs.declared.numbers.ItemNumbers.{ItemNumbers}
-use Rattle.mig_numbers.specs.declared.numbers.LimitNumbers.{LimitNumbers}
-use Rattle.mig_numbers.specs.declared.numbers.PairNumbers.{PairNumbers}
-use Rattle.mig_numbers.specs.declared.numbers.NumbersRefusal.{NumbersRefusal}
-use Rattle.mig_numbers.specs.declared.numbers.NumbersRefusal.TheVariants.{Memory, NoRoom, OutOfRange, SlotTaken, SlotTooHigh, TooManyDisks, TooManyItems, UnknownDisk, UnknownNext}
-use Rattle.std.proofs.lemmas.List.{get_or-map, length-map, length-take}
+use Rattle.mig_numbers.specs.declared.numbers.NumbersRefusal.TheVariants.{Memory, NoRoom, SlotTaken, SlotTooHigh, UnknownNext}
 
 slots_le : (on to : DiskId) (v : ℕ) → slots_for on to v ≤ 1
 slots_le on to v = grind (arith, nat_tests)
@@ -81,12 +70,8 @@ module _ (split : Bool) (limits : List LimitNumbers) (pairs : List PairNumbers) 
       ⊎_elim (λ u. ⊎_elim (λ m. subst IsOther m o) (λ a. ⊎_elim size (λ b. ⊎_elim (λ d. disk d.1) (λ f. item f.0 f.2) b) a) u) (λ r. room r.0.0 r.1) h
 
   pub slotless : (why : NumbersRefusal) → IsNumbersRefusal split disks items why → IsOfPairs (refused_of why).cause
-  slotless TooManyDisks h = inl (omega arith)
-  slotless TooManyItems h = inl (omega arith)
-  slotless (OutOfRange k) h = inl (omega arith)
-  slotless (UnknownDisk i) h = inl (omega arith)
   slotless (SlotTooHigh i) h = absurd (first_of_items (SlotTooHigh i) refl (λ no. no) (λ no. no) (λ few f. not_high i few f) (λ few no. no) h)
   slotless (SlotTaken i) h = absurd (first_of_items (SlotTaken i) refl (λ no. no) (λ no. no) (λ few f. not_taken i f) (λ few no. no) h)
   slotless (UnknownNext i) h = inr refl
   slotless (NoRoom k needs slots) h = absurd (first_of_items (NoRoom k needs slots) refl (λ no. no) (λ no. no) (λ few f. f.holds no_item) (λ few r. not_full k needs slots few r) h)
-  slotless Memory h = inl (omega arith)
+  slotless _ h = inl (omega arith)

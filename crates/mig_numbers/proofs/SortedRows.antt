@@ -1,37 +1,24 @@
 -- Rows by their rounds, and that they fit.
-use Rattle.mig_base.proofs.Common.{All, All-filter, All-map, Bool, List, [], ap, append-nil, arith, cases_eq, cases_lt, cond, count_by-le-length, false, fill_by_all, filter, filter-append, get_or, get_or-set_other, get_or-set_same, inl, inr}
-use Rattle.mig_base.proofs.Common.{get_or_default, ⊎_elim, ◌-◌, ◌⊎◌}
-use Rattle.mig_base.proofs.Common.{length, length-map, length-map-range_with_len, length-set, map, map-append, nat_tests, range_with_len, set, suc, sym, take, take_all, true, zero, ℕ, ◌++◌, ◌+◌, ◌<◌, ◌==◌, ◌∙◌, ◌∷◌, ◌≡◌, ◌≤◌}
-use Rattle.mig_base.specs.InputLists.{InputLists}
-use Rattle.mig_base.specs.Running.{PlanFits, ShiftFits}
-use Rattle.mig_base.specs.declared.ids.Shift.{Shift}
-use Rattle.mig_base.specs.declared.limits.TheConstants.{MAX_ROUNDS, MAX_SHIFTS}
-use Rattle.mig_gen.specs.MadeCases.{made_item}
+use Rattle.mig_numbers.proofs.Common.{All, All-filter, All-map, AreRowsSound, AreSorted, AreSound, Bool, DiskNumbers, Global, InputLists, IsRowSound}
+use Rattle.mig_numbers.proofs.Common.{ItemNumbers, List, MAX_ROUNDS, MAX_SHIFTS, PlanFits, Shift, ShiftFits, ShiftNumbers, Vec, [], ap, append-nil}
+use Rattle.mig_numbers.proofs.Common.{arith, cases_eq, cases_lt, cond, count_by-le-length, disk_in, false, fill_by_all, filter, filter-append, get_or}
+use Rattle.mig_numbers.proofs.Common.{get_or-set_other, get_or-set_same, get_or_default, inl, input_of, inr, is_in_round, length, length-filter}
+use Rattle.mig_numbers.proofs.Common.{length-map, length-map-range_with_len, length-set, made_item, map, map-append, nat_tests, no_item, no_numbers}
+use Rattle.mig_numbers.proofs.Common.{plan_by, range_with_len, round_shifts, set, shift_by, suc, sym, take, take_all, true, zero, ℕ, ⊎_elim, ◌++◌}
+use Rattle.mig_numbers.proofs.Common.{◌+◌, ◌-◌, ◌<◌, ◌==◌, ◌∙◌, ◌∷◌, ◌≡◌, ◌≤◌, ◌⊎◌}
 use Rattle.mig_numbers.proofs.Lists.{next_taken}
-use Rattle.mig_numbers.specs.Handed.{is_in_round}
-use Rattle.mig_numbers.specs.Judged.{AreRowsSound, IsRowSound, plan_by, shift_by, shifts_in}
-use Rattle.mig_numbers.specs.Numbers.{disk_in, input_of, no_item, no_numbers}
-use Rattle.mig_numbers.specs.Refusals.{AreSound}
-use Rattle.mig_numbers.specs.Spelled.{AreSorted, round_shifts}
-use Rattle.mig_numbers.specs.declared.numbers.DiskNumbers.{DiskNumbers}
-use Rattle.mig_numbers.specs.declared.numbers.ItemNumbers.{ItemNumbers}
-use Rattle.mig_numbers.specs.declared.numbers.ShiftNumbers.{ShiftNumbers}
-use Rattle.std.proofs.lemmas.List.Sums.{length-filter}
-use Rattle.std.specs.declared.alloc.Global.{Global}
-use Rattle.std.specs.declared.vec.Vec.{Vec}
+use Rattle.mig_numbers.specs.Judged.{shifts_in}
 
 -- what a row that isn't there would be
 abbrev pub no_row : ShiftNumbers
 no_row = record { item = 0; to_disk = 0; to_slot = 0; round = 0 }
 
 module _ (items : List ItemNumbers) (rows : List ShiftNumbers) (n : ℕ) (row : ShiftNumbers) (lt : n < length rows) (here : row ≡ get_or rows n row) where
-  taken : take (n + 1) rows ≡ take n rows ++ row ∷ []
-  taken = next_taken rows n row lt here
-
   more : (k : ℕ) → shifts_in items (take (n + 1) rows) k ≡ shifts_in items (take n rows) k ++ map (shift_by items) (cond (row.round == k + 1) (row ∷ []) [])
   more k =
       let p = is_in_round (k + 1) in
-      ap (λ (rs : List ShiftNumbers). map (shift_by items) (filter p rs)) taken ∙ ap (map (shift_by items)) (filter-append p (take n rows) (row ∷ []))
+      ap (λ (rs : List ShiftNumbers). map (shift_by items) (filter p rs)) (next_taken rows n row lt here)
+      ∙ ap (map (shift_by items)) (filter-append p (take n rows) (row ∷ []))
       ∙ map-append (shift_by items) (filter p (take n rows)) (cond (row.round == k + 1) (row ∷ []) [])
 
   same : (k : ℕ) → (row.round == k + 1) ≡ true → shifts_in items (take (n + 1) rows) k ≡ shifts_in items (take n rows) k ++ shift_by items row ∷ []

@@ -43,10 +43,7 @@ fn plan_into(
     ensures refused { IfErr result (IsNumbersRefusal split disks.now items.now) }
     ensures kept { IfErr result (λ _. (shifts.new ≡ shifts.old) × (set.new ≡ set.old)) }
 {
-    let input = match read_numbers(alloc, split, disks, items) {
-        Ok(input) => input,
-        Err(why) => return Err(why),
-    };
+    let input = read_numbers(alloc, split, disks, items)?;
     let Ok(made) = plan_input(alloc, &input) else {
         return Err(NumbersRefusal::Memory);
     };

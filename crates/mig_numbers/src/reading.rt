@@ -214,9 +214,7 @@ pub(crate) fn read_any(
     if let Some(why) = disk_fault(split, disks) {
         return Err(why);
     }
-    if let Err(why) = check_items(alloc, disks, items) {
-        return Err(why);
-    }
+    check_items(alloc, disks, items)?;
     match make_input(alloc, split, disks, items) {
         Ok(input) => Ok(input),
         Err(_) => Err(NumbersRefusal::Memory),
@@ -234,10 +232,7 @@ pub(crate) fn read_numbers(
     ensures sound { IfOk result (λ _. AreSound split disks.now items.now) }
     ensures refused { IfErr result (IsNumbersRefusal split disks.now items.now) }
 {
-    let input = match read_any(alloc, split, disks, items) {
-        Ok(input) => input,
-        Err(why) => return Err(why),
-    };
+    let input = read_any(alloc, split, disks, items)?;
     match room_fault(alloc, &input) {
         None => Ok(input),
         Some(why) => Err(why),

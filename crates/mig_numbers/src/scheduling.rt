@@ -112,10 +112,7 @@ fn schedule_into(
     let Ok(items) = make_movers(alloc, pairs) else {
         return Err(NumbersRefusal::Memory);
     };
-    let input = match read_numbers(alloc, split, &disks, &items) {
-        Ok(input) => input,
-        Err(why) => return Err(why),
-    };
+    let input = read_numbers(alloc, split, &disks, &items)?;
     let Ok(made) = plan_input(alloc, &input) else {
         return Err(NumbersRefusal::Memory);
     };

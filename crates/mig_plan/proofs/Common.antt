@@ -1,10 +1,12 @@
 -- The names that the proofs of this crate cite, passed on from one place. Declares nothing.
 pub use Rattle.mig_base.proofs.Common.{All, All-append, All-filter, All-map, AreTargets, Balances, Bool, Contains, Contains-append_left, Contains-append_right, Err, Global, IfOk, IfOk-weaker}
 pub use Rattle.mig_base.proofs.Common.{InputLists, IsEven, IsInput, IsLimited, KeepsLimits, List, Ok, Once, PlanFits, Result, Runs, Transfers, Transfer, Vec, []}
-pub use Rattle.mig_base.proofs.Common.{ap, append-nil, arith, cases_Bool, cases_eq, cases_lt, colour_at, common_steps, cond, count_by, count_by-le-length, disk_value, div_ceil, div_ceil_times}
-pub use Rattle.mig_base.proofs.Common.{drop, eq-eqb, eqb, false, false≢true, fill_by_all, filter, filter-append, filter_passes, get_or, get_or-le-sum_by, get_or-range_with_len, get_or-replicate}
+pub use Rattle.mig_base.proofs.Common.{ap, append-nil, arith, cases_Bool, cases_eq, cases_lt, colour_at, cond, count_by, count_by-le-length}
+pub use Rattle.mig_base.proofs.Common.{disk_value, div_ceil, div_ceil_times, drop, eq-eqb, eqb, false, false≢true, fill_by_all, filter, filter-append}
+pub use Rattle.mig_base.proofs.Common.{filter_passes, get_or, get_or-le-sum_by, get_or-range_with_len}
 pub use Rattle.mig_base.proofs.Common.{get_or-set_other, get_or-set_same, get_or_append_left, get_or_default, get_or_past, get_or_push, incoming, inl, inr, is_duplex, is_forward}
-pub use Rattle.mig_base.proofs.Common.{is_of, is_relocated, length, length-append, length-map, length-map-range_with_len, length-range_with_len, length-replicate, length-set, limit}
+pub use Rattle.mig_base.proofs.Common.{is_of, is_relocated, length, length-append, length-map, length-map-range_with_len, length-range_with_len}
+pub use Rattle.mig_base.proofs.Common.{length-set, limit}
 pub use Rattle.mig_base.proofs.Common.{load, map, map-append, min, move_at, moves, mul-le-mul_left, mul-le-mul_right, mul_comm, nat_tests, ne_eqb, no_disk, no_spot, not}
 pub use Rattle.mig_base.proofs.Common.{present, quotient, range_with_len, refl, replicate, rules, same_Some, set, shift_count, slice_get-get_or, slice_get_within, source, subst, suc}
 pub use Rattle.mig_base.proofs.Common.{sum_by, sum_by-append, sum_by-cons, sym, take, take-append-le, take_all, take_more, target, touches, transfer_graph, transfer, transfer_at, transfer_of, transfers, true, zero}
@@ -40,7 +42,7 @@ pub use Rattle.mig_plan.specs.ColourRows.{AreColourRows, colour_row, is_filled, 
 pub use Rattle.mig_duplex.specs.Coloured.{AreColours, IsSpread, entering_in, leaving_in}
 pub use Rattle.mig_plan.specs.Coloured.{IsDealtBoard, SidesFit}
 pub use Rattle.mig_plan.specs.Cursors.{AreFirstTargets, IsFreeFrom, first_moves, spot}
-pub use Rattle.mig_plan.specs.TakenSlots.{AreFree, AreTaken, AreTakenSlots, AreWidths, IsFirstFree, is_taken, row_at}
+pub use Rattle.mig_plan.specs.TakenSlots.{AreTaken, AreTakenSlots, AreWidths, IsFirstFree, is_taken, row_at}
 pub use Rattle.mig_split.proofs.Halves.{out_in}
 pub use Rattle.mig_split.specs.Copies.{AreShares, first_copy, second_of}
 pub use Rattle.mig_split.specs.Dealing.{listed_disk, occurrences}

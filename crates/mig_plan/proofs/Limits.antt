@@ -1,6 +1,7 @@
 -- From a complete proper colouring of copies to a limited colouring of the transfer graph.
 use Rattle.mig_plan.proofs.Common.{All, AreColours, AreShares, Balances, Bool, Colour, Colouring, Copied, CopyId, DiskId, IsDealtBoard, IsEven, IsGraph, IsLimited, IsProper, IsSpread, List}
-use Rattle.mig_plan.proofs.Common.{MAX_DISKS, MAX_ITEMS, SameGraph, SidesFit, StandsForEnds, Transfers, Transfer, ap, arith, cases_eq, ceil_of_none, ceil_within, colour_at, colour_at_disk}
+use Rattle.mig_plan.proofs.Common.{MAX_DISKS, MAX_ITEMS, SameGraph, SidesFit, StandsForEnds, Transfers, Transfer}
+use Rattle.mig_plan.proofs.Common.{ap, arith, cases_eq, ceil_of_none, colour_at, colour_at_disk, nat_tests}
 use Rattle.mig_plan.proofs.Common.{copies_of_sides, count_by-filter, div_ceil, div_ceil_times, edges_of, entering_in, eqb, false, first_copy, get_or, get_or_default, head_of, listed_disk, occurrences}
 use Rattle.mig_plan.proofs.Common.{in_of, inl, inr, is_duplex, is_forward, keeps_joint, leaving_in, length, length-map, limit, load, load_within_quotient, map, min, mul-le-mul_left}
 use Rattle.mig_plan.proofs.Common.{mul-le-mul_right, ne_eqb, no_disk, not, one, out_in, out_of, quotient, range_with_len, second_of, subst, sum_by-add, sum_by-le_each, sum_by-map, sym, tail_of}
@@ -86,9 +87,6 @@ shares_differ graph ds share ends homes apart a k d h = subst (λ (p : CopyId ×
 pub share_some : (q : ℕ) → 1 ≤ q → 1 ≤ div_ceil q 16
 share_some q h = omega (arith, h, (div_ceil_times q 16 (omega arith)).0)
 
-pub share_most : (q : ℕ) → div_ceil q 16 ≤ q
-share_most q = ceil_within q 16 (omega arith)
-
 -- the board's size
 pub few_general : (nodes q s c m d : ℕ) → 2 * c ≤ 3 * q → s ≡ div_ceil q 16 → nodes * s ≤ 2 * m + d * s → m ≤ MAX_ITEMS → d ≤ MAX_DISKS → q ≤ MAX_ITEMS → nodes * c ≤ 268435456
 few_general nodes q s c m d hc is_s room hm hd hq =
@@ -137,15 +135,11 @@ spread_joint graph q ds colours valid joint fit s = record {
     at_ends q t true v = either q (eqb v t.leaves) (eqb v t.reaches)
       where
         either : (q a b : Bool) → one (q && (a || b)) ≤ one (q && a) + one (q && b)
-        either true true b = omega arith
-        either true false b = omega arith
-        either false a b = omega arith
+        either q a b = grind (arith, nat_tests)
     at_ends q t false v = other q (eqb v t.leaves) (eqb v t.reaches)
       where
         other : (q a b : Bool) → one (q && (a || b)) ≤ one (q && b) + one (q && a)
-        other true true b = omega arith
-        other true false b = omega arith
-        other false a b = omega arith
+        other q a b = grind (arith, nat_tests)
 
     both_sides : (c v : ℕ) → load v (map (transfer_at graph.transfers) (edges_of colours c m)) ≤ leaving_in graph ds colours c v + entering_in graph ds colours c v
     both_sides c v =

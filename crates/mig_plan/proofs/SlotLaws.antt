@@ -1,17 +1,11 @@
 -- Rows of slots: what one spot more takes, and how long the rows are.
-use Rattle.mig_plan.proofs.Common.{All, All-append, All-map, AreCounts, AreFree, AreTaken, AreTakenSlots, AreWidths, Bool, Contains, Contains-append_left, Contains-push, Contains-push_cases}
-use Rattle.mig_plan.proofs.Common.{DiskId, Global, InputLists, IsFirstFree, IsFreeFrom, IsInput, List, Spot, Vec, [], ap, arith, cases_eq, cases_lt, count_by-filter-le, count_by-le-length, occurrences}
-use Rattle.mig_plan.proofs.Common.{eqb, false, false≢true, fill_by_all, get_or, get_or-replicate, get_or-set_other, get_or-set_same, get_or_default, get_or_past, incoming, inl, inr, is_relocated}
-use Rattle.mig_plan.proofs.Common.{is_taken, length, length-append, length-map, length-replicate, length-set, map, one, range_with_len, refl, row_at, set, spot, spot_by, spot_disk, subst}
-use Rattle.mig_plan.proofs.Common.{sum_by-append, sum_by-map, sym, take, take_more, target, true, ℕ, ◌++◌, ◌+◌, ◌<◌, ◌∙◌, ◌∷◌, ◌≡◌, ◌≢◌, ◌≤◌}
-
-pub AreTaken-start : (widths : List ℕ) (spots : List Spot) (rows : List (Vec Bool Global)) → AreFree widths rows → AreTaken widths (take 0 spots) rows
-AreTaken-start widths spots rows a = record {
-  len = a.len;
-  width = λ v d h. ap (λ (r : List Bool). length r) (a.row v d h) ∙ length-replicate (get_or widths v 0) false;
-  known = λ v s d h l e. absurd (false≢true (sym (get_or-replicate (get_or widths v 0) s false true l) ∙ ap (λ (r : List Bool). is_taken r s) (sym (a.row v d h)) ∙ e));
-  all = λ v s d h has. absurd (omega (arith, has.1));
-}
+use Rattle.mig_plan.proofs.Common.{All, All-append, All-map, AreCounts, AreTaken, AreTakenSlots, AreWidths, Bool, Contains, Contains-append_left}
+use Rattle.mig_plan.proofs.Common.{Contains-push, Contains-push_cases, DiskId, Global, InputLists, IsFirstFree, IsFreeFrom, IsInput, List, Spot, Vec}
+use Rattle.mig_plan.proofs.Common.{[], ap, arith, cases_eq, cases_lt, count_by-filter-le, count_by-le-length, occurrences, eqb, false≢true}
+use Rattle.mig_plan.proofs.Common.{fill_by_all, get_or, get_or-set_other, get_or-set_same, get_or_default, get_or_past, incoming, inl, inr}
+use Rattle.mig_plan.proofs.Common.{is_relocated, is_taken, length, length-append, length-map, length-set, map, one, range_with_len, refl, row_at, set}
+use Rattle.mig_plan.proofs.Common.{spot, spot_by, spot_disk, subst, sum_by-append, sum_by-map, sym, take, take_more, target, true, ℕ, ◌++◌, ◌+◌, ◌<◌}
+use Rattle.mig_plan.proofs.Common.{◌∙◌, ◌∷◌, ◌≡◌, ◌≢◌, ◌≤◌}
 
 -- a row after one slot is taken
 same_slot : (row : List Bool) (slot s : ℕ) → s ≡ slot → is_taken (set row slot true) s ≡ true
@@ -107,18 +101,6 @@ pub stops_there : (input : InputLists) (n : ℕ) (stops : List DiskId) → IsInp
 stops_there input n stops is disks list = subst (λ (xs : List DiskId). All (λ (d : DiskId). d.0 < n) xs) (sym list) (All-append (λ (d : DiskId). d.0 < n) (map (λ (s : Spot). s.disk) input.spots) input.next
     (All-map (λ (d : DiskId). d.0 < n) (λ (s : Spot). s.disk) input.spots (λ k d h. omega (arith, spot_disk input.disks (get_or input.spots k d) (is.on_disks k d h), disks)))
     (λ k d h. omega (arith, is.next_disks k d h, disks)))
-
-pub taken_are : (input : InputLists) (widths : List ℕ) (spots : List Spot) (rows : List (Vec Bool Global)) → spots ≡ input.spots → AreWidths input widths → AreTaken widths spots rows → AreTakenSlots input rows
-taken_are input widths spots rows same w a =
-    let P : List Spot → Type 0 = λ xs. AreTaken widths xs rows in
-    let t : AreTaken widths input.spots rows = subst P same a in
-    record {
-      len = t.len ∙ w.len;
-      enough = λ v d h. omega (arith, t.width v d h, w.enough v (omega (arith, h, t.len, w.len)));
-      few = λ v d h. omega (arith, t.width v d h, w.few v (omega (arith, h, t.len, w.len)));
-      known = λ v s d h l e. t.known v s d h (omega (arith, l, t.width v d h)) e;
-      all = t.all;
-    }
 
 -- the first slot of a disk's row that isn't taken is a spot that no item has
 pub free_from : (input : InputLists) (rows : List (Vec Bool Global)) (v from slot : ℕ) (d : Vec Bool Global) → AreTakenSlots input rows → v < length rows → IsFirstFree (row_at rows v d) from slot → IsFreeFrom input.spots v from slot

@@ -1,21 +1,13 @@
 -- The spots that relocated items are given, one after the other.
 use Rattle.mig_plan.proofs.Common.{AreFirstTargets, AreTargets, Bool, Contains, Contains-append_cases, Contains-append_left, Contains-append_right, Contains-push, IsFreeFrom, IsLowestFree, List}
-use Rattle.mig_plan.proofs.Common.{InputLists, Spot, [], ap, append-nil, arith, cases_eq, cases_lt, cond, drop, false, filter, filter-append, first_moves, get_or, get_or-replicate, get_or-set_other}
-use Rattle.mig_plan.proofs.Common.{get_or-set_same, get_or_append_left, get_or_default, get_or_push, incoming, inl, inr, is_relocated, length, length-append, length-replicate, length-set, map-id}
-use Rattle.mig_plan.proofs.Common.{move_at, moves, no_spot, present, range_more, range_with_len, refl, replicate, same_Some, set, slice_get-get_or, slice_get_within, some_free, spot, subst, sym}
+use Rattle.mig_plan.proofs.Common.{InputLists, Spot, [], ap, append-nil, arith, cases_eq, cases_lt, cond, drop, false, filter, filter-append}
+use Rattle.mig_plan.proofs.Common.{first_moves, get_or, get_or-set_other, get_or-set_same, get_or_append_left, get_or_default, get_or_push, incoming}
+use Rattle.mig_plan.proofs.Common.{inl, inr, is_relocated, length, length-append, length-set, map-id, move_at, moves, no_spot, present, range_more}
+use Rattle.mig_plan.proofs.Common.{range_with_len, refl, same_Some, set, slice_get-get_or, slice_get_within, some_free, spot, subst, sym}
 use Rattle.mig_plan.proofs.Common.{take, take-append-drop, take-append-le, take-map-range_with_len, take_all, target, target_at, true, ℕ, ◌++◌, ◌+◌, ◌<◌, ◌∙◌, ◌∷◌, ◌≡◌, ◌≤◌}
 
 moves_by : (input : InputLists) (i : ℕ) (b : Bool) → is_relocated input i ≡ b → first_moves input (i + 1) ≡ first_moves input i ++ cond b (i ∷ []) []
 moves_by input i b t = ap (filter (is_relocated input)) (range_more i) ∙ filter-append (is_relocated input) (range_with_len 0 i) (i ∷ []) ∙ ap (λ c. first_moves input i ++ cond c (i ∷ []) []) t
-
-pub start : (input : InputLists) (n : ℕ) → n ≡ length input.disks → AreFirstTargets input 0 [] (replicate n 0)
-start input n is = record {
-  len = refl;
-  each = λ e h. absurd (omega arith);
-  cursors_len = length-replicate n 0 ∙ is;
-  passed = λ v s h l. absurd (omega (arith, l, get_or-replicate {A = ℕ} n v 0 0 (omega (arith, h, is))));
-  below = λ e h. absurd (omega arith);
-}
 
 pub stays : (input : InputLists) (i : ℕ) (targets : List Spot) (cursors : List ℕ) → is_relocated input i ≡ false → AreFirstTargets input i targets cursors → AreFirstTargets input (i + 1) targets cursors
 stays input i targets cursors f a =

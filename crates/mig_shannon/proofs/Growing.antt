@@ -1,12 +1,6 @@
 -- Colourings in which more and more edges have a colour.
-use Rattle.mig_shannon.proofs.Common.{Colour, Colouring, EdgeId, Grows, IsPainted, IsPlain, None, Option, PaintsOne, SameGraph, Some, ap, arith, cases_eq, false, inl, inr, is_some, refl}
-use Rattle.mig_shannon.proofs.Common.{same_edge, slice_get, subst, sym, true, ℕ, ◌+◌, ◌<◌, ◌∙◌, ◌≡◌}
-
-pub Grows-same : (g h : Colouring) → h ≡ g → Grows g h
-Grows-same g h same = subst (λ (q : Colouring). Grows g q) (sym same) (record { graph = refl; kept = λ e p. p })
-
-pub Grows-one : (g h : Colouring) (e : EdgeId) → PaintsOne g h e → Grows g h
-Grows-one g h e p = record { graph = p.graph; kept = p.kept }
+use Rattle.mig_shannon.proofs.Common.{Colour, Colouring, EdgeId, Grows, IsPainted, IsPlain, None, Option, PaintsOne, SameGraph, Some, ap, arith}
+use Rattle.mig_shannon.proofs.Common.{cases_eq, false, inl, inr, is_some, same_edge, slice_get, subst, sym, true, ℕ, ◌+◌, ◌<◌, ◌∙◌, ◌≡◌}
 
 pub Grows-trans : (a b c : Colouring) → Grows a b → Grows b c → Grows a c
 Grows-trans a b c x y =
@@ -19,9 +13,6 @@ Grows-trans a b c x y =
 pub record IsColoured (first now : Colouring) (n : ℕ) : Type 0 where
   pub graph : SameGraph first now
   pub done : (e : EdgeId) → e.0 < n → IsPainted now e
-
-pub IsColoured-start : (g : Colouring) → IsColoured g g 0
-IsColoured-start g = record { graph = refl; done = λ e m. absurd (omega (arith, m)) }
 
 -- the next edge has a colour already
 pub IsColoured-next : (first now : Colouring) (n : ℕ) (e : EdgeId) → e.0 ≡ n → IsColoured first now n → IsPainted now e → IsColoured first now (n + 1)
@@ -40,9 +31,6 @@ IsColoured-more first now next n e is p x =
     IsColoured-next first next n e is
     (record { graph = x.graph ∙ ap (λ (g : Colouring). record g { painted = next.painted }) p.graph; done = λ f m. x.kept f (p.done f m) })
     x.here
-
-pub Grows-is : (a b c : Colouring) → Grows a b → c ≡ b → Grows a c
-Grows-is a b c x same = subst (λ (g : Colouring). Grows a g) (sym same) x
 
 pub IsColoured-is : (first now next : Colouring) (n : ℕ) → IsColoured first now n → next ≡ now → IsColoured first next n
 IsColoured-is first now next n x same = subst (λ (g : Colouring). IsColoured first g n) (sym same) x

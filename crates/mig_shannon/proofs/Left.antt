@@ -90,9 +90,6 @@ pub record AreTried (first now : Colouring) (n left : ℕ) : Type 0 where
   pub proper : IsProper now
   pub counted : left ≡ count_by is_none (take n now.painted)
 
-pub AreTried-start : (g : Colouring) → IsProper g → AreTried g g 0 0
-AreTried-start g p = record { grows = record { graph = refl; kept = λ e h. h }; proper = p; counted = refl }
-
 -- the next edge had a colour
 pub AreTried-same : (first now : Colouring) (n left : ℕ) → n < length now.ends → AreTried first now n left → IsPainted now (edge n) → AreTried first now (n + 1) left
 AreTried-same first now n left h a p =

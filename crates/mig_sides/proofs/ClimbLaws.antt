@@ -1,12 +1,13 @@
 -- Ways up and down trees.
-use Rattle.mig_sides.proofs.Common.{AreTogether, DiskId, GoesUpOrDown, IsClimb, IsClimbing, IsParent, IsRooted, IsWalkBetween, List, Node, Option, Some, [], ap, arith, cases_lt, disk_on}
-use Rattle.mig_sides.proofs.Common.{get_or_append_left, get_or_push, inl, inr, length, length-append, node_at, refl, same_Some, subst, sym, ℕ, ◌++◌, ◌+◌, ◌-◌, ◌<◌, ◌∙◌, ◌∷◌, ◌≡◌, ◌≤◌, ◌⊎◌}
+use Rattle.mig_sides.proofs.Common.{DiskId, GoesUpOrDown, IsClimb, IsClimbing, IsParent, IsRooted, List, Node, Option, Some, [], ap, arith, cases_lt}
+use Rattle.mig_sides.proofs.Common.{disk_on, get_or_append_left, get_or_push, inl, inr, length, length-append, node_at, refl, same_Some, subst, sym}
+use Rattle.mig_sides.proofs.Common.{ℕ, ◌++◌, ◌+◌, ◌-◌, ◌<◌, ◌∙◌, ◌∷◌, ◌≡◌, ◌≤◌, ◌⊎◌}
 
--- places of a way that gets one disk more
-at_before : (way : List DiskId) (w : DiskId) (k : ℕ) → k < length way → disk_on (way ++ w ∷ []) k ≡ disk_on way k
+-- places of disks to which one more is added
+pub at_before : (way : List DiskId) (w : DiskId) (k : ℕ) → k < length way → disk_on (way ++ w ∷ []) k ≡ disk_on way k
 at_before way w k h = ap (λ (x : DiskId). x.0) (get_or_append_left way (w ∷ []) (record { 0 = 0 }) k h)
 
-at_end : (way : List DiskId) (w : DiskId) (k : ℕ) → k ≡ length way → disk_on (way ++ w ∷ []) k ≡ w.0
+pub at_end : (way : List DiskId) (w : DiskId) (k : ℕ) → k ≡ length way → disk_on (way ++ w ∷ []) k ≡ w.0
 at_end way w k e = ap (λ (x : DiskId). x.0) (get_or_push way w (record { 0 = 0 }) k (sym e))
 
 -- a relation of each disk to the next, kept by one disk more
@@ -80,21 +81,6 @@ pub record IsWalking (nodes : List (Option Node)) (v : ℕ) (down : List DiskId)
   pub last : disk_on walk (length walk - 1) ≡ disk_on down left
   pub steps : GoesUpOrDown nodes walk
 
-pub walk_none : (nodes : List (Option Node)) (v w left : ℕ) (walk down : List DiskId) → AreTogether nodes v w → IsClimb nodes v walk → IsClimb nodes w down → left + 1 ≡ length down → IsWalking nodes v down left (length walk + left) walk
-walk_none nodes v w left walk down t up back e =
-    let one = same_Some up.node t.one (sym up.node_is ∙ t.one_is) in
-    let other = same_Some back.node t.other (sym back.node_is ∙ t.other_is) in
-    let top : length walk - 1 ≡ up.node.rank = omega (arith, up.len) in
-    let bottom : left ≡ back.node.rank = omega (arith, back.len, e) in
-    record {
-      sum = refl;
-      some = omega (arith, up.len);
-      within = omega (arith, e);
-      first = up.first;
-      last = ap (disk_on walk) top ∙ up.last ∙ ap (λ (x : Node). x.root.0) one ∙ t.same_root ∙ sym (ap (disk_on down) bottom ∙ back.last ∙ ap (λ (x : Node). x.root.0) other);
-      steps = λ k h. inl (up.up k h);
-    }
-
 pub walk_more : (nodes : List (Option Node)) (v w left total : ℕ) (walk down : List DiskId) (next : DiskId) → IsClimb nodes w down → disk_on down left ≡ next.0 → IsWalking nodes v down (left + 1) total walk → IsWalking nodes v down left total (walk ++ next ∷ [])
 walk_more nodes v w left total walk down next back is x =
     let long = length-append walk (next ∷ []) in
@@ -109,15 +95,4 @@ walk_more nodes v w left total walk down next back is x =
       first = at_before walk next 0 x.some ∙ x.first;
       last = ap (disk_on (walk ++ next ∷ [])) end ∙ at_end walk next (length walk) refl ∙ sym is;
       steps = steps_more Step walk next (length walk - 1) (omega (arith, x.some)) step x.steps;
-    }
-
-pub walk_all : (nodes : List (Option Node)) (v w total : ℕ) (walk up down : List DiskId) → AreTogether nodes v w → IsClimb nodes v up → IsClimb nodes w down → total + 1 ≡ length up + length down → IsWalking nodes v down 0 total walk → IsWalkBetween nodes v w walk
-walk_all nodes v w total walk up down t a b sum x =
-    let one = ap (λ (y : Node). y.rank) (same_Some a.node t.one (sym a.node_is ∙ t.one_is)) in
-    let other = ap (λ (y : Node). y.rank) (same_Some b.node t.other (sym b.node_is ∙ t.other_is)) in
-    record {
-      odd = omega (arith, x.sum, sum, a.len, b.len, one, other, t.same_side);
-      first = x.first;
-      last = x.last ∙ b.first;
-      steps = x.steps;
     }

@@ -1,15 +1,16 @@
 -- The names that the proofs of this crate cite, passed on from one place. Declares nothing.
-pub use Rattle.mig_base.proofs.Common.{All, All-append, Bool, Contains, Contains-append_left, Contains-append_right, Global, IsSome, List, None, Option, Some, Transfers, Transfer, Vec, [], ap, arith}
-pub use Rattle.mig_base.proofs.Common.{cases_eq, cases_lt, cond, count_by-le-length, false, false≢true, get_or, get_or-set_other, get_or-set_same, get_or_append_left, get_or_default}
-pub use Rattle.mig_base.proofs.Common.{get_or_from_slice_get, get_or_past, get_or_push, inl, inr, is_some, length, length-append, length-set, none-some, refl, same_Some, set, slice_get}
-pub use Rattle.mig_base.proofs.Common.{slice_get_within, subst, suc, sym, take, take_more, true, zero, ℕ, ◌%◌, ◌*◌, ◌++◌, ◌+◌, ◌-◌, ◌/◌, ◌<◌, ◌∙◌, ◌∷◌, ◌≡◌, ◌≢◌, ◌≤◌, ◌⊎◌}
+pub use Rattle.mig_base.proofs.Common.{All, Bool, Contains, Contains-append_left, Global, IsSome, List, None, Option, Some, Transfers, Transfer, Vec}
+pub use Rattle.mig_base.proofs.Common.{[], ap, arith, cases_eq, cases_lt, cond, count_by-le-length, false, false≢true, get_or, get_or-set_other}
+pub use Rattle.mig_base.proofs.Common.{get_or-set_same, get_or_append_left, get_or_default, get_or_from_slice_get, get_or_past, get_or_push, inl, inr}
+pub use Rattle.mig_base.proofs.Common.{is_some, length, length-append, length-set, none-some, refl, same_Some, set, slice_get, slice_get_within}
+pub use Rattle.mig_base.proofs.Common.{subst, suc, sym, take, take_more, true, zero, ℕ, ◌%◌, ◌++◌, ◌+◌, ◌-◌, ◌/◌, ◌<◌, ◌∙◌, ◌∷◌, ◌≡◌, ◌≢◌, ◌≤◌, ◌⊎◌}
 pub use Rattle.mig_base.specs.Sides.{IsTwoSided, Separates}
 pub use Rattle.mig_base.specs.declared.ids.DiskId.{DiskId}
-pub use Rattle.mig_sides.specs.Climbs.{GoesUp, GoesUpOrDown, IsClimb, IsClimbing, IsWalkBetween}
+pub use Rattle.mig_sides.specs.Climbs.{GoesUpOrDown, IsClimb, IsClimbing, IsWalkBetween}
 pub use Rattle.mig_sides.specs.Neighbours.{AreNear, list_at}
-pub use Rattle.mig_sides.specs.Reaching.{AreAllApart, IsApartFrom, IsMet, IsNewlyReached, Reaches, child_of}
-pub use Rattle.mig_sides.specs.Searches.{AreExplored, AreOnOneSide, AreTrees, HasGrown, IsExplored, IsGrowing, IsQueued, StayReached}
-pub use Rattle.mig_sides.specs.Trees.{AreApart, AreTogether, IsChild, IsParent, IsRooted, IsRootedAt, node_at, unreached}
+pub use Rattle.mig_sides.specs.Reaching.{AreAllApart, IsApartFrom, IsMet, Reaches, child_of}
+pub use Rattle.mig_sides.specs.Searches.{AreExplored, AreOnOneSide, AreTrees, HasGrown, IsExplored, IsGrowing, StayReached}
+pub use Rattle.mig_sides.specs.Trees.{AreApart, IsParent, IsRooted, IsRootedAt, node_at, unreached}
 pub use Rattle.mig_sides.specs.Walks.{IsJoined, IsOddWalk, disk_on}
 pub use Rattle.mig_sides.specs.declared.trees.Node.{Node}
 pub use Rattle.std.proofs.lemmas.List.Elements.{Contains-append_cases, Contains-push}

@@ -1,7 +1,9 @@
 -- Lists of neighbours, to which edges are added one after the other.
-use Rattle.mig_sides.proofs.Common.{All, All-append, AreNear, Contains, Contains-append_cases, Contains-append_left, Contains-push, DiskId, Global, IsJoined, List, Some, Transfers, Transfer, Vec, []}
-use Rattle.mig_sides.proofs.Common.{ap, arith, cases_eq, get_or, get_or-set_other, get_or-set_same, get_or_default, get_or_from_slice_get, inl, inr, length, length-set, list_at, refl, set}
-use Rattle.mig_sides.proofs.Common.{slice_get, slice_get_within, subst, suc, sym, take, take_more, zero, ℕ, ◌++◌, ◌+◌, ◌<◌, ◌∙◌, ◌∷◌, ◌≡◌, ◌≢◌, ◌⊎◌}
+use Rattle.mig_sides.proofs.Common.{All, AreNear, Contains, Contains-append_cases, Contains-append_left, Contains-push, DiskId, Global, IsJoined}
+use Rattle.mig_sides.proofs.Common.{List, Some, Transfers, Transfer, Vec, [], ap, arith, cases_eq, get_or, get_or-set_other, get_or-set_same}
+use Rattle.mig_sides.proofs.Common.{get_or_default, get_or_from_slice_get, inl, inr, length, length-set, list_at, refl, set, slice_get}
+use Rattle.mig_sides.proofs.Common.{slice_get_within, subst, suc, sym, take, take_more, zero, ℕ, ◌++◌, ◌+◌, ◌<◌, ◌∙◌, ◌∷◌, ◌≡◌, ◌≢◌, ◌⊎◌}
+use Rattle.std.proofs.lemmas.List.Elements.{All-push}
 
 abbrev pub only_disk : ℕ → List DiskId
 only_disk b = record { 0 = b } ∷ []
@@ -30,7 +32,7 @@ module _ (near : List (Vec DiskId Global)) (a b : ℕ) (old new : Vec DiskId Glo
         let old_all : All (λ (w : DiskId). Or J a b v w.0) (list_at near v d) = λ k e l. inl (x.joined v d (omega (arith, h, length-set near a new)) k e l) in
         elim (cases_eq v a) [
           | inl e ↦ subst (λ (xs : List DiskId). All (λ (w : DiskId). Or J a b v w.0) xs) (sym (row_same v d e))
-              (All-append (λ (w : DiskId). Or J a b v w.0) (list_at near v d) (only_disk b) old_all (λ k d' l. single v e k d' l))
+              (All-push (λ (w : DiskId). Or J a b v w.0) (list_at near v d) (record { 0 = b }) old_all (inr (e, refl)))
           | inr ne ↦ subst (λ (xs : List DiskId). All (λ (w : DiskId). Or J a b v w.0) xs) (sym (row_other v d ne)) old_all
         ];
     all = λ v w d h j.
@@ -46,10 +48,6 @@ module _ (near : List (Vec DiskId Global)) (a b : ℕ) (old new : Vec DiskId Glo
           ])
         ];
   }
-    where
-      single : (v : ℕ) → v ≡ a → (k : ℕ) (d : DiskId) → k < length (only_disk b) → Or J a b v (get_or (only_disk b) k d).0
-      single v e zero d l = inr (e, refl)
-      single v e (suc k) d l = absurd (omega arith)
 
 -- where two relations are the same
 pub same_lists : (J K : ℕ → ℕ → Type 0) (near : List (Vec DiskId Global)) → ((v w : ℕ) → J v w → K v w) → ((v w : ℕ) → K v w → J v w) → AreListsOf J near → AreListsOf K near

@@ -1,26 +1,9 @@
 -- What is reached from one disk, neighbour by neighbour.
 use Rattle.mig_sides.proofs.Common.{All, Bool, Contains, DiskId, IsSome, List, Node, None, Option, Reaches, Some, StayReached, [], ap, arith, cases_eq, cases_lt, child_of, disk_on, false, false≢true}
-use Rattle.mig_sides.proofs.Common.{get_or, get_or-set_other, get_or-set_same, get_or_append_left, get_or_default, get_or_push, inl, inr, is_some, length, length-append, length-set, node_at}
-use Rattle.mig_sides.proofs.Common.{none-some, not, refl, same_Some, set, subst, sym, true, ℕ, ◌++◌, ◌+◌, ◌<◌, ◌∙◌, ◌∷◌, ◌≡◌}
+use Rattle.mig_sides.proofs.Common.{get_or, get_or-set_other, get_or-set_same, get_or_default, inl, inr, is_some, length, length-append, length-set}
+use Rattle.mig_sides.proofs.Common.{node_at, not, refl, same_Some, set, subst, sym, true, ℕ, ◌++◌, ◌+◌, ◌<◌, ◌∙◌, ◌∷◌, ◌≡◌}
+use Rattle.mig_sides.proofs.ClimbLaws.{at_before, at_end}
 use Rattle.mig_sides.proofs.TreeLaws.{kept_set, one_less, some_node}
-
-pub reaches_none : (disk : DiskId) (node : Node) (near : List DiskId) (nodes : List (Option Node)) (queue : List DiskId) → Reaches disk node near nodes nodes queue queue
-reaches_none disk node near nodes queue = record {
-  len = refl;
-  kept = λ v found is. is;
-  fresh = λ v found none is. absurd (none-some found (sym none ∙ is));
-  longer = omega arith;
-  before = λ k h. refl;
-  added = λ k h l. absurd (omega arith);
-  count = refl;
-}
-
--- places of a queue that gets one disk more
-at_before : (queue : List DiskId) (w : DiskId) (k : ℕ) → k < length queue → disk_on (queue ++ w ∷ []) k ≡ disk_on queue k
-at_before queue w k h = ap (λ (x : DiskId). x.0) (get_or_append_left queue (w ∷ []) (record { 0 = 0 }) k h)
-
-at_end : (queue : List DiskId) (w : DiskId) → disk_on (queue ++ w ∷ []) (length queue) ≡ w.0
-at_end queue w = ap (λ (x : DiskId). x.0) (get_or_push queue w (record { 0 = 0 }) (length queue) refl)
 
 module _ (disk : DiskId) (node : Node) (near : List DiskId) (old mid : List (Option Node)) (was queue : List DiskId) (w : DiskId) (there : w.0 < length mid) (plain : node_at mid w.0 ≡ None) where
   abbrev child : Node
@@ -49,7 +32,7 @@ module _ (disk : DiskId) (node : Node) (near : List DiskId) (old mid : List (Opt
         place = length queue;
         after = r.longer;
         within = omega (arith, long);
-        queued = at_end queue w ∙ sym e;
+        queued = at_end queue w (length queue) refl ∙ sym e;
       }
       | inr ne ↦ (let f = r.fresh v found none (sym (get_or-set_other mid w.0 v (Some child) None ne) ∙ is) in record {
         child = f.child;
@@ -64,13 +47,10 @@ module _ (disk : DiskId) (node : Node) (near : List DiskId) (old mid : List (Opt
     before = λ k h. at_before queue w k (omega (arith, h, r.longer)) ∙ r.before k h;
     added = λ k h l. elim (cases_lt k (length queue)) [
       | inl lt ↦ ap (node_at new) (at_before queue w k lt) ∙ kept (disk_on queue k) child (r.added k h lt)
-      | inr ge ↦ (let is : k ≡ length queue = omega (arith, ge, l, long) in ap (λ n. node_at new (disk_on (queue ++ w ∷ []) n)) is ∙ ap (node_at new) (at_end queue w) ∙ here)
+      | inr ge ↦ ap (node_at new) (at_end queue w k (omega (arith, ge, l, long))) ∙ here
     ];
     count = omega (arith, one_less mid w.0 child there plain, long, r.count);
   }
-
-  pub reached_now : IsSome (node_at new w.0)
-  reached_now = ap is_some here
 
 -- what was reached stays so
 pub still_reached : (old later : List (Option Node)) (v : ℕ) → StayReached old later → IsSome (node_at old v) → IsSome (node_at later v)

@@ -1,17 +1,15 @@
 -- Counting the ends of each disk.
 use Rattle.mig_split.proofs.Common.{AreCounts, DiskId, List, ap, arith, cases_eq, count_by, count_by-le-length, count_by-le-one, count_by_more_no, count_by_more_yes, eq-eqb, listed_disk, occurrences}
-use Rattle.mig_split.proofs.Common.{eqb, fill_by_all, get_or, get_or-range_with_len, get_or-replicate, get_or-set_other, get_or-set_same, inl, inr, length, length-range_with_len}
-use Rattle.mig_split.proofs.Common.{length-replicate, length-set, map, nat_tests, ne_eqb, one, range_with_len, refl, replicate, set, subst, sum, sum-map, sum_by, sum_by-le, sum_by-swap, sym}
-use Rattle.mig_split.proofs.Common.{take, true, ℕ, ◌+◌, ◌<◌, ◌∙◌, ◌≡◌, ◌≢◌, ◌≤◌}
+use Rattle.mig_split.proofs.Common.{eqb, fill_by_all, get_or, get_or-range_with_len, get_or-set_other, get_or-set_same, inl, inr, length}
+use Rattle.mig_split.proofs.Common.{length-range_with_len, length-set, map, ne_eqb, one, range_with_len, refl, set, subst, sum, sum-map}
+use Rattle.mig_split.proofs.Common.{sum_by, sum_by-le, sum_by-swap, sym, take, ℕ, ◌+◌, ◌<◌, ◌∙◌, ◌≡◌, ◌≢◌, ◌≤◌}
+use Rattle.mig_base.proofs.Common.{eqb-true}
 
 pub count_of_same : (stops : List DiskId) (i v : ℕ) → i < length stops → listed_disk stops i ≡ v → occurrences v (take (i + 1) stops) ≡ occurrences v (take i stops) + 1
 count_of_same stops i v h e = count_by_more_yes (λ (d : DiskId). eqb d.0 v) stops i (record { 0 = 0 }) h (eq-eqb _ _ e)
 
 pub count_of_other : (stops : List DiskId) (i v : ℕ) → i < length stops → v ≢ listed_disk stops i → occurrences v (take (i + 1) stops) ≡ occurrences v (take i stops)
 count_of_other stops i v h e = count_by_more_no (λ (d : DiskId). eqb d.0 v) stops i (record { 0 = 0 }) h (ne_eqb _ _ (λ x. e (sym x)))
-
-pub AreCounts-start : (disks : ℕ) (stops : List DiskId) → AreCounts disks (take 0 stops) (replicate disks 0)
-AreCounts-start disks stops = record { len = length-replicate disks 0; counted = λ v h. get_or-replicate disks v 0 0 h }
 
 pub AreCounts-more : (disks : ℕ) (stops : List DiskId) (counts : List ℕ) (i n : ℕ) → i < length stops → listed_disk stops i < disks → n ≡ get_or counts (listed_disk stops i) 0 + 1 → AreCounts disks (take i stops) counts → AreCounts disks (take (i + 1) stops) (set counts (listed_disk stops i) n)
 AreCounts-more disks stops counts i n h there is_n a =
@@ -38,13 +36,9 @@ counts_total disks stops counts a =
     let most = sum_by-le (λ (d : DiskId). sum_by (λ v. f v d) (range_with_len 0 n)) 1 stops (λ k d h. once (get_or stops k d).0 n) in
     omega (arith, total, turned, most)
   where
-    at : (n k d : ℕ) → k < n → get_or (range_with_len 0 n) k d ≡ k
-    at n k d h = omega (arith, get_or-range_with_len 0 n k d h)
-
-    both : (w i j : ℕ) → i < j → eqb w i ≡ true → eqb w j ≡ true → ⊥
-    both w i j h e f = absurd (grind (arith, nat_tests))
-
     once : (w n : ℕ) → count_by (λ v. eqb w v) (range_with_len 0 n) ≤ 1
     once w n = count_by-le-one (λ v. eqb w v) (range_with_len 0 n) (λ i j d l h p q.
-        let len = length-range_with_len 0 n in
-        both w i j l (subst (λ m. eqb w m ≡ true) (at n i d (omega (arith, l, h, len))) p) (subst (λ m. eqb w m ≡ true) (at n j d (omega (arith, h, len))) q))
+        let below : j < n = omega (arith, h, length-range_with_len 0 n) in
+        let i_at = get_or-range_with_len 0 n i d (omega (arith, l, below)) in
+        let j_at = get_or-range_with_len 0 n j d below in
+        absurd (omega (arith, l, i_at, j_at, eqb-true w (get_or (range_with_len 0 n) i d) p, eqb-true w (get_or (range_with_len 0 n) j d) q)))

@@ -1,8 +1,9 @@
 -- Nodes that are filled with the ends of copies, one copy after the other.
-use Rattle.mig_split.proofs.Common.{All, AreCopyCounts, AreFilled, Bool, CopyId, IsFilledBy, IsFilling, Last, List, [], ap, arith, cases_eq, cases_lt, cond, copy_at, count_at, count_by}
-use Rattle.mig_split.proofs.Common.{count_by-le-length, count_by_more_no, count_by_more_yes, ends_in, eq-eqb, eqb, false, get_or, get_or-replicate, get_or-set_other, get_or-set_same}
-use Rattle.mig_split.proofs.Common.{get_or_append_left, get_or_push, inl, inr, length, length-append, length-replicate, length-set, mul-le-mul_left, nat_lt, nat_tests, ne_eqb, one, refl}
-use Rattle.mig_split.proofs.Common.{replicate, set, subst, sum_by, sum_by-add, sum_by-none, sum_by-same_each, sym, take, true, ℕ, ◌&&◌, ◌*◌, ◌++◌, ◌+◌, ◌<◌, ◌∙◌, ◌∷◌, ◌≡◌, ◌≢◌, ◌≤◌}
+use Rattle.mig_split.proofs.Common.{All, AreCopyCounts, AreFilled, Bool, CopyId, IsFilledBy, IsFilling, Last, List, [], ap, arith, cases_eq, cases_lt}
+use Rattle.mig_split.proofs.Common.{cond, copy_at, count_at, count_by, count_by-le-length, count_by_more_no, count_by_more_yes, ends_in, eq-eqb, eqb}
+use Rattle.mig_split.proofs.Common.{false, get_or, get_or-set_other, get_or-set_same, get_or_append_left, get_or_push, inl, inr, length}
+use Rattle.mig_split.proofs.Common.{length-append, length-set, mul-le-mul_left, nat_lt, nat_tests, ne_eqb, one, refl, set, subst, sum_by, sum_by-add}
+use Rattle.mig_split.proofs.Common.{sum_by-none, sum_by-same_each, sym, take, true, ℕ, ◌&&◌, ◌*◌, ◌++◌, ◌+◌, ◌<◌, ◌∙◌, ◌∷◌, ◌≡◌, ◌≢◌, ◌≤◌}
 
 -- ---- the ends of each copy
 
@@ -11,9 +12,6 @@ count_at_same stops i k h e = count_by_more_yes (λ (c : CopyId). eqb c.0 k) sto
 
 count_at_other : (stops : List CopyId) (i k : ℕ) → i < length stops → k ≢ copy_at stops i → count_at k (take (i + 1) stops) ≡ count_at k (take i stops)
 count_at_other stops i k h e = count_by_more_no (λ (c : CopyId). eqb c.0 k) stops i (record { 0 = 0 }) h (ne_eqb _ _ (λ x. e (sym x)))
-
-pub AreCopyCounts-start : (copies : ℕ) (stops : List CopyId) → AreCopyCounts copies (take 0 stops) (replicate copies 0)
-AreCopyCounts-start copies stops = record { len = length-replicate copies 0; counted = λ k h. get_or-replicate copies k 0 0 h }
 
 pub AreCopyCounts-more : (copies : ℕ) (stops : List CopyId) (counts : List ℕ) (i n : ℕ) → i < length stops → copy_at stops i < copies → n ≡ get_or counts (copy_at stops i) 0 + 1 → AreCopyCounts copies (take i stops) counts → AreCopyCounts copies (take (i + 1) stops) (set counts (copy_at stops i) n)
 AreCopyCounts-more copies stops counts i n h there is_n a =

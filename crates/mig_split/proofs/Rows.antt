@@ -3,19 +3,6 @@ use Rattle.mig_split.proofs.Common.{AreDecks, AreFresh, Deck, DiskId, List, [], 
 use Rattle.mig_split.proofs.Common.{get_or-replicate, get_or-take, get_or_append_left, get_or_past, get_or_push, inl, inr, length, length-append, length-replicate, length-take-le, ne_eqb}
 use Rattle.mig_split.proofs.Common.{no_deck, refl, replicate, subst, sum_by-append, sum_by-replicate, sum_by_more, sym, take, ℕ, ◌*◌, ◌++◌, ◌+◌, ◌-◌, ◌<◌, ◌∙◌, ◌∷◌, ◌≡◌, ◌≢◌, ◌≤◌}
 
-pub AreDecks-start : (numbers : List ℕ) → AreDecks (take 0 numbers) [] []
-AreDecks-start numbers =
-    record {
-      len = refl;
-      number = λ v h. absurd (omega arith);
-      inside = λ v h. absurd (omega arith);
-      home = λ v j h. absurd (omega arith);
-      deck = λ k h. absurd (omega arith);
-      number_of = λ v h. absurd (omega arith);
-      none_of = λ v h. refl;
-      total = refl;
-    }
-
 -- a list of disks with one more deck's places
 one_of : (v n : ℕ) (homes : List DiskId) → occurrences v (homes ++ replicate n (record { 0 = v })) ≡ occurrences v homes + n
 one_of v n homes =

@@ -29,13 +29,10 @@ few_nodes (suc n) q m some h = omega (arith, h, mul-le-mul_left n some)
 -- ---- the copies of each side
 
 left_or : (a b : Bool) → one a ≤ one (a || b)
-left_or true b = omega arith
-left_or false b = omega arith
+left_or a b = grind (arith, nat_tests)
 
 right_or : (a b : Bool) → one b ≤ one (a || b)
-right_or true true = omega arith
-right_or true false = omega arith
-right_or false b = omega arith
+right_or a b = grind (arith, nat_tests)
 
 first_ends : (k : CopyId) (ends : List (CopyId × CopyId)) → count_by (λ p. eqb p.0.0 k.0) ends ≤ ends_at k ends
 first_ends k ends = sum_by-le_each (λ (p : CopyId × CopyId). one (eqb p.0.0 k.0)) (λ p. one (is_end k p)) ends (λ i d h. left_or (eqb (get_or ends i d).0.0 k.0) (eqb (get_or ends i d).1.0 k.0))

@@ -1,8 +1,9 @@
 -- Dealing from decks in turn.
-use Rattle.mig_split.proofs.Common.{AreDecks, AreFresh, Bool, CopyId, Deck, DiskId, IsAfter, IsDealing, IsDealtBy, IsEnough, IsTurn, List, [], ap, arith, cases_eq, cases_lt, cond, count_at}
-use Rattle.mig_split.proofs.Common.{deck_at, eq-eqb, eqb, false, get_or-le-sum_by, get_or-set_other, get_or-set_same, get_or_append_left, get_or_default, get_or_push, gone, listed_disk, occurrences}
-use Rattle.mig_split.proofs.Common.{inl, inr, is_gone, length, length-append, length-set, mul-le-mul_left, nat_tests, ne_eqb, no_deck, place_after, refl, set, subst, suc, sum_by_push, sym, take}
-use Rattle.mig_split.proofs.Common.{take_all, true, zero, ℕ, ◌*◌, ◌++◌, ◌+◌, ◌-◌, ◌<◌, ◌∙◌, ◌∷◌, ◌≡◌, ◌≢◌, ◌≤◌}
+use Rattle.mig_split.proofs.Common.{AreDecks, Bool, CopyId, Deck, DiskId, IsAfter, IsDealing, IsDealtBy, IsEnough, IsTurn, List, [], ap, arith}
+use Rattle.mig_split.proofs.Common.{cases_eq, cases_lt, cond, count_at, deck_at, eq-eqb, eqb, false, get_or-le-sum_by, get_or-set_other}
+use Rattle.mig_split.proofs.Common.{get_or-set_same, get_or_append_left, get_or_default, get_or_push, gone, listed_disk, occurrences, inl, inr}
+use Rattle.mig_split.proofs.Common.{is_gone, length, length-append, length-set, mul-le-mul_left, nat_tests, ne_eqb, no_deck, place_after, refl, set}
+use Rattle.mig_split.proofs.Common.{subst, suc, sum_by_push, sym, take, take_all, true, zero, ℕ, ◌*◌, ◌++◌, ◌+◌, ◌-◌, ◌<◌, ◌∙◌, ◌∷◌, ◌≡◌, ◌≢◌, ◌≤◌}
 use Rattle.mig_split.proofs.Counts.{count_of_same, count_of_other}
 
 same_deck : (decks : List Deck) (v : ℕ) (later : Bool) (next : Deck) → v < length decks → IsAfter (deck_at decks v) later next → (w : ℕ) → ((deck_at (set decks v next) w).first ≡ (deck_at decks w).first) × ((deck_at (set decks v next) w).count ≡ (deck_at decks w).count)
@@ -140,26 +141,6 @@ IsDealing-more numbers decks homes stops copies i later next len h within pos a 
       ]);
     }
 
-pub IsDealing-start : (stops homes : List DiskId) (decks : List Deck) → AreFresh decks → IsDealing stops homes decks []
-IsDealing-start stops homes decks fresh =
-    record {
-      there = λ i h. absurd (omega arith);
-      home = λ i h. absurd (omega arith);
-      turn = λ v h. (let f = fresh v in record {
-        turns = 0;
-        total = omega (arith, none (deck_at decks v).start (deck_at decks v).next (deck_at decks v).count f.0 f.1);
-        start_in = λ p. omega (arith, f.0, p);
-        next_in = λ p. omega (arith, f.1, p);
-        ends = λ j hj. none_dealt (deck_at decks v).start (deck_at decks v).next j f.0 f.1;
-      });
-    }
-  where
-    none : (start next count : ℕ) → start ≡ 0 → next ≡ 0 → gone start next count ≡ 0
-    none start next count s n = grind (arith, nat_tests)
-
-    none_dealt : (start next j : ℕ) → start ≡ 0 → next ≡ 0 → 0 ≡ 0 + cond (is_gone start next j) 1 0
-    none_dealt start next j s n = grind (arith, nat_tests)
-
 -- after all ends, no copy has more than q
 most_turns : (q load count start next turns : ℕ) → start < count → next < count → load ≡ turns * count + gone start next count → load ≤ count * q → (j : ℕ) → j < count → turns + cond (is_gone start next j) 1 0 ≤ q
 most_turns q load count start next turns hs hn total most j hj = elim (cases_lt q (turns + cond (is_gone start next j) 1 0)) [
@@ -174,8 +155,7 @@ most_turns q load count start next turns hs hn total most j hj = elim (cases_lt 
 ]
   where
     at_most : (b : Bool) → cond b 1 0 ≤ 1
-    at_most true = omega arith
-    at_most false = omega arith
+    at_most b = grind (arith, nat_tests)
 
     same : (t q : ℕ) → q ≤ t → t ≤ q → t ≡ q
     same t q a b = omega arith

@@ -1,8 +1,9 @@
 -- Cells that are held in a list.
-use Rattle.mig_store.proofs.Common.{AreDifferent, Bool, Cell, Contains, Contains-get_or, Gate, HasLengths, Head, Held, IfSome, List, Mark, None, Option, SameBut, Slot, Some, [], ap, arith}
-use Rattle.mig_store.proofs.Common.{cases_Bool, cell_len, cell_of, change_at, cond, cond-false, cond-true, drop, false, false≢true, get_or, get_or_from_slice_get, held_at, held_map, inl, inr}
-use Rattle.mig_store.proofs.Common.{is_cell, is_cell-other, is_cell-same, is_cell-true, length, length-map, length-replicate, map, option_map, put_at, refl, set, slice_get, slice_get_within}
-use Rattle.mig_store.proofs.Common.{subst, suc, sym, take, true, zero, zero_held, ℕ, ◌++◌, ◌<◌, ◌∙◌, ◌∷◌, ◌≡◌, ◌≤◌}
+use Rattle.mig_store.proofs.Common.{AreDifferent, Bool, Cell, Contains, Contains-get_or, Gate, HasLengths, Head, Held, IfSome, List, Mark, None}
+use Rattle.mig_store.proofs.Common.{Option, SameBut, Slot, Some, [], ap, arith, cases_Bool, cell_len, cell_of, change_at, cond, cond-false, cond-true}
+use Rattle.mig_store.proofs.Common.{false, false≢true, get_or, get_or_from_slice_get, held_at, held_map, inl, inr, is_cell, is_cell-other}
+use Rattle.mig_store.proofs.Common.{is_cell-same, is_cell-true, length, length-map, length-replicate, map, option_map, put_at, refl, set, slice_get}
+use Rattle.mig_store.proofs.Common.{slice_get_within, subst, suc, sym, true, zero, zero_held, ℕ, ◌<◌, ◌∙◌, ◌∷◌, ◌≡◌, ◌≤◌}
 use Rattle.std.proofs.lemmas.List.{get_or-map}
 
 module _ {T : Type 0} where
@@ -145,14 +146,3 @@ module _ (cell : Cell) (bytes : List ℕ) (fits : length bytes ≡ cell_len cell
       here : (o : Option (List ℕ)) → IfSome (option_map (λ old. bytes) o) (λ told. told ≡ bytes)
       here None = tt
       here (Some old) = refl
-
--- a loop that changes each element is one element further
-pub mapped-more : {X : Type 0} (f : X → X) (xs : List X) (i : ℕ) (d : X) → i < length xs → set (map f (take i xs) ++ drop i xs) i (f (get_or xs i d)) ≡ map f (take (suc i) xs) ++ drop (suc i) xs
-mapped-more f [] i d lt = absurd (omega arith)
-mapped-more f (x ∷ xs) zero d lt = refl
-mapped-more f (x ∷ xs) (suc i) d lt = ap (λ (l : List _). f x ∷ l) (mapped-more f xs i d (omega arith))
-
-pub mapped-next : {X : Type 0} (f : X → X) (xs : List X) (i : ℕ) (d : X) → i < length xs → get_or (map f (take i xs) ++ drop i xs) i d ≡ get_or xs i d
-mapped-next f [] i d lt = absurd (omega arith)
-mapped-next f (x ∷ xs) zero d lt = refl
-mapped-next f (x ∷ xs) (suc i) d lt = mapped-next f xs i d (omega arith)

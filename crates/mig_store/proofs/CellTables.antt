@@ -1,7 +1,9 @@
 -- Lists of different cells.
-use Rattle.mig_store.proofs.Common.{AllPairs-from_IsDistinct, AreDifferent, Bool, Cell, Contains, Contains-from_any, Decides, Gate, Head, IndexSet, IsEquivalence, IsUnique, List, Mark}
-use Rattle.mig_store.proofs.Common.{MatchOption, None, Option, Slot, Some, [], ap, cases_Bool, cond, eq-value, false, false_from_ne_true, false≢true, inl, inr, insert_key, is_cell, is_cell-same}
-use Rattle.mig_store.proofs.Common.{is_cell-true, is_some, list_any, list_any-from_Contains, position, position-Some, refl, slice_get, slice_get-get_or, sym, true, ℕ, ◌++◌, ◌∙◌, ◌∷◌, ◌≡◌}
+use Rattle.mig_store.proofs.Common.{AllPairs-from_IsDistinct, AreDifferent, Bool, Cell, Contains, Contains-from_any, Decides, Gate, Head, IndexSet}
+use Rattle.mig_store.proofs.Common.{IsUnique, List, Mark, MatchOption, None, Option, Slot, Some, [], ap, cond, eq-value, false, false≢true}
+use Rattle.mig_store.proofs.Common.{insert_key, is_cell, is_cell-same, is_cell-true, is_some, list_any, list_any-from_Contains, position}
+use Rattle.mig_store.proofs.Common.{position-Some, refl, slice_get, slice_get-get_or, sym, true, ℕ, ◌++◌, ◌∙◌, ◌∷◌, ◌≡◌}
+use Rattle.mig_base.specs.contracts.cells.CellEq.TheImpl.Laws.{laws-law}
 
 abbrev eq : Cell → Cell → Bool
 eq = eq-value.it
@@ -20,23 +22,10 @@ eq-same a b is = is_cell-true a b (sym (eq-is a b) ∙ is)
 pub eq-decides : (a b : Cell) → Decides (eq a b) (a ≡ b)
 eq-decides a b = (eq-same a b, λ same. eq-is a b ∙ is_cell-same a b same)
 
-equivalence : IsEquivalence eq
-equivalence = record {
-  refl = λ a. (eq-decides a a).1 refl;
-  symm = λ a b. elim (cases_Bool (eq a b)) [
-    | inl is ↦ is ∙ sym ((eq-decides b a).1 (sym (eq-same a b is)))
-    | inr not ↦ not ∙ sym (false_from_ne_true _ (λ is. false≢true (sym not ∙ (eq-decides a b).1 (sym (eq-same b a is)))))
-  ];
-  congr = λ a b c is. ap (λ (cell : Cell). eq cell c) (eq-same a b is);
-}
-
-any_cell : (cells : List Cell) (cell : Cell) → Contains cells cell → list_any (eq cell) cells ≡ true
-any_cell cells cell has = list_any-from_Contains equivalence cell cells has
-
 -- what a look-up of a cell says
 pub found_cell : (cells : List Cell) (cell : Cell) (r : Option ℕ) → r ≡ position (eq cell) cells → is_some r ≡ list_any (eq cell) cells
     → MatchOption r (¬ (Contains cells cell)) (λ k. slice_get cells k ≡ Some cell)
-found_cell cells cell None at found = λ c. absurd (false≢true (found ∙ any_cell cells cell c))
+found_cell cells cell None at found = λ has. false≢true (found ∙ list_any-from_Contains laws-law cell cells has)
 found_cell cells cell (Some k) at found =
     let p = position-Some (eq cell) cells k cell (sym at) in
     slice_get-get_or cells k cell p.0 ∙ ap Some (sym (eq-same cell _ p.1))

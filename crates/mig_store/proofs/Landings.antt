@@ -1,6 +1,8 @@
 -- A loop that ends the copies in flight.
-use Rattle.mig_store.proofs.Common.{AreFlights, Ends, Flight, Landing, Lands, List, Log, Memory, Some, Trouble, [], after_end, ap, arith, ends_none, ends_then, flying, land_many, landed, length}
-use Rattle.mig_store.proofs.Common.{length-append, length_permutation, moment_of, next_flight, pushed, refl, state_at, suc, sym, ℕ, ◌++◌, ◌+◌, ◌∙◌, ◌∷◌, ◌≡◌}
+use Rattle.mig_store.proofs.Common.{AreFlights, Ends, Flight, Landing, Lands, List, Log, Memory, Some, Trouble, [], after_end, ap, arith, ends_then}
+use Rattle.mig_store.proofs.Common.{flying, land_many, landed, length, length-append, length_permutation, moment_of, next_flight, pushed, refl}
+use Rattle.mig_store.proofs.Common.{state_at, suc, sym, ℕ, ◌++◌, ◌+◌, ◌∙◌, ◌∷◌, ◌≡◌, NoCell, ends_quiet}
+use Rattle.mig_store.proofs.Moments.{unrecorded}
 
 -- so many copies ended
 pub record HaveLanded (old new : Log) (i : ℕ) : Type 0 where
@@ -13,20 +15,7 @@ pub record HaveLanded (old new : Log) (i : ℕ) : Type 0 where
 
 module _ (old : Log) where
   none_ends : (a b : ℕ) → Ends [] (state_at old.first old.calls a) (state_at old.first old.calls b)
-  none_ends a b =
-      let none = ends_none (state_at old.first old.calls a) in record {
-        change = record {
-          told = none.change.told;
-          crash = none.change.crash;
-          time = record { later = omega arith; since = none.change.time.since };
-          keeps = none.change.keeps;
-          images = none.change.images;
-          events = none.change.events;
-        };
-        copied = none.copied;
-        gone = none.gone;
-        others = none.others;
-      }
+  none_ends a b = ends_quiet (state_at old.first old.calls a) (state_at old.first old.calls b) (unrecorded NoCell NoCell old.first old.calls a b)
 
   pub landed_none : HaveLanded old old 0
   landed_none = record { these = []; ends = none_ends; calls = omega arith; left = omega arith; first = refl; room = refl }
@@ -42,11 +31,6 @@ module _ (old : Log) where
     room = ap (λ (l : Log). l.room) value ∙ sofar.room;
   }
 
-pub none_left : {X : Type 0} (xs : List X) → length xs ≡ 0 → xs ≡ []
-none_left [] e = refl
-none_left (x ∷ xs) e = absurd (omega arith)
-
--- one copy more
 pub landed_next : (old new : Log) (before after : Landing) (t : Trouble) (f : Flight) → new ≡ pushed old (Lands f.from f.to) → after ≡ after_end before → next_flight (record { log = old; landing = before; trouble = t }) ≡ Some f
     → (n : ℕ) (m : Memory) → record { log = old; landing = before; trouble = t } ≡ land_many n m → record { log = new; landing = after; trouble = t } ≡ land_many (n + 1) m
 landed_next old new before after t f log landing next n m sofar =

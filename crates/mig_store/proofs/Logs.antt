@@ -32,8 +32,5 @@ shown-some (Some c) some = refl
 
 -- they have the cell's length
 pub shown-length : (n : ℕ) (o : Option CellBytes) (bytes : List ℕ) → option_map (λ (c : CellBytes). c.shown) o ≡ Some bytes → IfSome o (HaveLength n) → length bytes ≡ n
-shown-length n o bytes e long = at o (shown-is o bytes e) long
-  where
-    at : (o : Option CellBytes) → IsSomeAnd o (λ c. c.shown ≡ bytes) → IfSome o (HaveLength n) → length bytes ≡ n
-    at None none long = absurd none
-    at (Some c) is long = ap (λ (l : List ℕ). length l) (sym is) ∙ long.shown
+shown-length n None bytes e long = absurd cc
+shown-length n (Some c) bytes e long = let is : c.shown ≡ bytes = cc in ap (λ (l : List ℕ). length l) (sym is) ∙ long.shown

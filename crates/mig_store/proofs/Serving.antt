@@ -1,10 +1,12 @@
 -- What a store in memory tells after each kind of call.
-use Rattle.mig_store.proofs.Common.{Bool, Cell, Changes, Contains, Copies, Ends, Event, Flight, Held, IfSome, Image, IsCopy, IsMoment, IsPermutation, IsSettled, IsTargetOf, Lands, List, StoreCall}
-use Rattle.mig_store.proofs.Common.{Log, MayLeave, Memory, Moment, NoCell, SameBut, Synced, Wrote, [], after, after_call, ap, append-nil, arith, began, cell_len, cond, contains_any, ended}
-use Rattle.mig_store.proofs.Common.{ends_one_others, false, filter, flights_began, flying, get_or, is_flight, length, moment_of, not, pushed, reads, refl, state_at, state_of, subst, suc, sym}
-use Rattle.mig_store.proofs.Common.{target_here, target_right, true, zero, ℕ, ◌++◌, ◌<◌, ◌∙◌, ◌∷◌, ◌≡◌}
+use Rattle.mig_store.proofs.Common.{Bool, Cell, Changes, Contains, Copies, Ends, Event, Flight, Held, IfSome, Image, IsCopy, IsMoment, IsPermutation}
+use Rattle.mig_store.proofs.Common.{IsTargetOf, Lands, List, StoreCall, Log, MayLeave, Memory, Moment, NoCell, SameBut, Synced, Wrote, [], after}
+use Rattle.mig_store.proofs.Common.{after_call, ap, append-nil, arith, began, cell_len, cond, contains_any, ended, ends_one_others, false, filter}
+use Rattle.mig_store.proofs.Common.{flights_began, flying, get_or, is_flight, length, moment_of, not, pushed, reads, refl, state_at, state_of, subst}
+use Rattle.mig_store.proofs.Common.{suc, sym, target_here, target_right, true, zero, ℕ, ◌++◌, ◌<◌, ◌∙◌, ◌∷◌, ◌≡◌}
 use Rattle.mig_store.proofs.Moments.{after-push, unrecorded, recorded}
-use Rattle.mig_store.proofs.Steps.{wrote_told, wrote_crash, wrote_shows, asked_told, asked_crash, landed_told, landed_crash, landed_copied, landed_flights, others_gone, synced_told, synced_crash, synced_settled}
+use Rattle.mig_store.proofs.Steps.{wrote_told, wrote_crash, wrote_shows, asked_told, asked_crash, landed_told, landed_crash, landed_copied}
+use Rattle.mig_store.proofs.Steps.{landed_flights, others_gone, synced_told, synced_crash}
 
 module _ (m n : Memory) where
   pub mem_still : (P Q : Cell → Type 0) → n.log ≡ m.log → Changes P Q [] (state_of m) (state_of n)
@@ -44,9 +46,6 @@ module _ (m n : Memory) where
   module _ (same : n.log ≡ pushed m.log Synced) (is : IsMoment (moment_of m.log)) where
     pub mem_synced : Changes NoCell NoCell [] (state_of m) (state_of n)
     mem_synced = mem_pushed Synced same NoCell NoCell [] (synced_told (moment_of m.log) is) (synced_crash (moment_of m.log) is) (sym (append-nil (moment_of m.log).events))
-
-    pub mem_settled : IsSettled (state_of n)
-    mem_settled = subst (λ (x : Moment). (image : Image) → MayLeave x image → SameBut NoCell (reads x) image) (sym (mem_moment Synced same)) (synced_settled (moment_of m.log) is)
 
 -- a copy that ends
 module _ (first : List (Held (List ℕ))) (calls : List StoreCall) (f : Flight) (is : IsMoment (after first calls)) (has : Contains (flying (after first calls)) f) (a b : ℕ) where

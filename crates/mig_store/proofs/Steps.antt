@@ -176,9 +176,6 @@ module _ (m : Moment) (is : IsMoment m) where
   pub synced_told : SameBut NoCell (reads m) (reads synced)
   synced_told = record { same = λ cell out. same_at (m.cells cell); shape = λ cell. ap (λ (o : Option (List ℕ)). option_map length o) (same_at (m.cells cell)) }
 
-  pub synced_settled : (image : Image) → MayLeave synced image → SameBut NoCell (reads synced) image
-  synced_settled image left = record { same = λ cell out. left.same cell (settled_at (m.cells cell)); shape = left.shape }
-
   pub synced_crash : (image : Image) → MayLeave synced image → (old : Image) × MayLeave m old × SameBut NoCell old image
   synced_crash image left = (
     reads m,

@@ -1,6 +1,8 @@
 //! A record of calls on cells that are held in memory.
-ghost use Rattle.std.specs.Prelude.{◌≡◌, ◌↔◌, ◌≤◌, ◌<◌, ◌+◌, ◌++◌, Bool, true, [], ◌∷◌, ℕ, List, IsTrue, IsSome, IfSome, IfNone, IfOk, None, Some, map, length, count_by, slice_index_or};
+ghost use Rattle.std.specs.Prelude.{◌≡◌, ◌↔◌, ◌≤◌, ◌<◌, ◌+◌, ◌++◌, Bool, true, [], ◌∷◌, ℕ, List, IsTrue, IsSome, IfSome, IfNone, IfOk, None, Some};
+ghost use Rattle.std.specs.Prelude.{if◌then◌else◌, map, length, count_by, slice_index_or, vec_len, vec_capacity};
 ghost use Rattle.std.specs.Option.{IsSomeAnd, option_map};
+ghost use Rattle.mig_base.specs.declared.cells.Event.TheVariants.{Began};
 ghost use Rattle.mig_base.specs.Cells.{cell_len, is_slot};
 ghost use Rattle.mig_base.specs.InputLists.{AreDifferent};
 ghost use Rattle.mig_base.specs.Flights.{IsTargetOf, IsSourceOf, AreFlights};
@@ -12,13 +14,14 @@ ghost use Rattle.mig_store.specs.Ledgers.{Log, is_sync, IsMoment, moment_of, rea
 use crate::calls::{Act, CallRecord};
 use crate::cell_table::CellTable;
 use crate::contents::{Entry, Pick, ask_at, crash_all, land_at, note_copy, zero_entries};
-use crate::growing::push;
+use crate::growing::append;
 use crate::held::{Held, get};
 use mig_base::{Cell, Event, Flight};
 use std::alloc::{AllocError, Global};
 use std::marker::Model;
 
 /// What was asked of the cells, and what they hold.
+#[derive(Drop)]
 pub struct Ledger {
     table: CellTable,
     held: Vec<Held<Entry>>,
@@ -28,20 +31,6 @@ pub struct Ledger {
     events: Vec<Event>,
     flying: Vec<Flight>,
     room: u32,
-}
-
-impl Drop for Ledger {
-    fn drop(self) {
-        let Ledger {
-            table: _table,
-            held: _held,
-            period: _,
-            calls: _calls,
-            events: _events,
-            flying: _flying,
-            room: _,
-        } = self;
-    }
 }
 
 impl Model for Ledger {
@@ -57,6 +46,27 @@ impl Model for Ledger {
     ghost invariant = { λ l. IsLog (record { first = firsts l.held.items; calls = l.calls.calls; room = l.room }) (seen_all l.calls.calls l.period l.held.items) l.events.items l.flying.items
         × (l.table ≡ map cell_of l.held.items) × AreWithin (length l.calls.calls) l.period l.held.items × (1 ≤ l.period) × (l.period ≤ length l.calls.calls + 1)
         × (l.room ≤ l.calls.room) × (l.room ≤ vec_capacity l.events) × (l.room ≤ vec_capacity l.flying) };
+}
+
+// Adds a copy, if it began.
+fn take_off(events: &mut Vec<Event>, flying: &mut Vec<Flight>, flight: Flight, began: bool)
+    requires events { vec_len events.old < vec_capacity events.old }
+    requires flying { vec_len flying.old < vec_capacity flying.old }
+    ensures events { events.new.items ≡ (if began then events.old.items ++ Began flight.from flight.to ∷ [] else events.old.items) }
+    ensures flying { flying.new.items ≡ (if began then flying.old.items ++ flight ∷ [] else flying.old.items) }
+    ensures more_events { vec_capacity events.old ≤ vec_capacity events.new }
+    ensures more_flying { vec_capacity flying.old ≤ vec_capacity flying.new }
+{
+    if began {
+        append(
+            events,
+            &[Event::Began {
+                from: flight.from,
+                to: flight.to,
+            }],
+        );
+        append(flying, &[flight]);
+    }
 }
 
 impl Ledger {
@@ -201,16 +211,7 @@ impl Ledger {
             place,
             false,
         );
-        if done {
-            push(
-                &mut self.events,
-                Event::Began {
-                    from: flight.from,
-                    to: flight.to,
-                },
-            );
-            push(&mut self.flying, flight);
-        }
+        take_off(&mut self.events, &mut self.flying, flight, done);
     }
 
     /// Ends the copy in flight at this place.
@@ -229,12 +230,12 @@ impl Ledger {
             },
             &[],
         );
-        push(
+        append(
             &mut self.events,
-            Event::Ended {
+            &[Event::Ended {
                 from: flight.from,
                 to: flight.to,
-            },
+            }],
         );
         flight
     }

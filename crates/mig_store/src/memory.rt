@@ -209,8 +209,7 @@ impl Store for MemStore {
         ensures cause { HasCause (state_of self.old) (state_of self.new) result }
     {
         if self.trouble.next() {
-            self.trouble.fault();
-            return Err(StoreFailed);
+            return Err(self.trouble.fault());
         }
         self.ledger.read(cell, into);
         Ok(())
@@ -263,13 +262,11 @@ impl Store for MemStore {
     {
         let fails = self.trouble.next_write();
         if !self.ledger.has_room(1) {
-            self.trouble.fault();
-            return Err(StoreFailed);
+            return Err(self.trouble.fault());
         }
         self.ledger.write(cell, bytes, !fails);
         if fails {
-            self.trouble.fault();
-            return Err(StoreFailed);
+            return Err(self.trouble.fault());
         }
         Ok(())
     }
@@ -292,12 +289,10 @@ impl Store for MemStore {
     {
         let fails = self.trouble.next_write();
         if !self.ledger.has_room(1) {
-            self.trouble.fault();
-            return Err(StoreFailed);
+            return Err(self.trouble.fault());
         }
         if !self.ledger.tells(from, to) {
-            self.trouble.fault();
-            return Err(StoreFailed);
+            return Err(self.trouble.fault());
         }
         self.ledger.begin(
             Flight {
@@ -307,8 +302,7 @@ impl Store for MemStore {
             !fails,
         );
         if fails {
-            self.trouble.fault();
-            return Err(StoreFailed);
+            return Err(self.trouble.fault());
         }
         Ok(())
     }
@@ -325,15 +319,13 @@ impl Store for MemStore {
         ensures cause { HasCause (state_of self.old) (state_of self.new) result }
     {
         if self.trouble.next() {
-            self.trouble.fault();
-            return Err(StoreFailed);
+            return Err(self.trouble.fault());
         }
         if self.ledger.flying().is_empty() {
             return Ok(None);
         }
         if !self.ledger.has_room(1) {
-            self.trouble.fault();
-            return Err(StoreFailed);
+            return Err(self.trouble.fault());
         }
         let flight = land_next(&mut self.ledger, &mut self.landing);
         Ok(Some((flight.from, flight.to)))
@@ -351,8 +343,7 @@ impl Store for MemStore {
     {
         let places = self.ledger.flying().len() + 1;
         if self.trouble.next() || !self.ledger.has_room(places) {
-            self.trouble.fault();
-            return Err(StoreFailed);
+            return Err(self.trouble.fault());
         }
         land_all(&mut self.ledger, &mut self.landing);
         self.ledger.settle();

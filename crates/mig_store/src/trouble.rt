@@ -3,6 +3,8 @@ ghost use Rattle.std.specs.Prelude.{◌≡◌, ◌||◌, ◌+◌, Bool, true, fa
 ghost use Rattle.mig_base.specs.FaultCounts.{Rose};
 ghost use Rattle.mig_store.specs.Troubles.{fails, fails_write, next_number, next_write};
 
+use crate::StoreFailed;
+
 #[derive(Drop)]
 pub struct Trouble {
     pub failing: Vec<u64>,
@@ -49,11 +51,13 @@ impl Trouble {
         }
     }
 
-    pub fn fault(&mut self)
+    // Counts a fault.
+    pub fn fault(&mut self) -> StoreFailed
         ensures value { self.new ≡ record self.old { faults = min (suc self.old.faults) (2 ^ 64 - 1) } }
         ensures rose { Rose self.old.faults self.new.faults }
         ensures later { self.old.faults ≤ self.new.faults }
     {
         self.faults = self.faults.saturating_add(1);
+        StoreFailed
     }
 }

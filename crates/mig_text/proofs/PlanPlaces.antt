@@ -4,6 +4,7 @@ use Rattle.mig_text.proofs.Common.{PlanPlace, PlanText, Shift, ShiftFits, Title,
 use Rattle.mig_text.proofs.Common.{decimal_injective, head_line, inl, inr, length, map, pieces, plan_lacks, plan_lines, refl, round_lines, rounds_word_lacks, same_words, shift_line, subst, suc}
 use Rattle.mig_text.proofs.Common.{sym, words, ℕ, ◌++◌, ◌+◌, ◌<◌, ◌∙◌, ◌∷◌, ◌≡◌, ◌≤◌}
 use Rattle.mig_text.proofs.Places.{Leads-append, no_misfit, pieces_of_lines}
+use Rattle.std.proofs.lemmas.List.{append_cancel_left}
 
 same_total : (m n : ℕ) → m ≤ MAX_ROUNDS → n ≤ MAX_ROUNDS → words (codes "rounds" ∷ decimal m ∷ []) ≡ words (codes "rounds" ∷ decimal n ∷ []) → m ≡ n
 same_total m n a b e =
@@ -12,15 +13,11 @@ same_total m n a b e =
     decimal_injective m n (omega arith) (omega arith) cc
 
 -- a byte list that goes on where two fronts are the same
-same_rest : (a x y : List ℕ) → a ++ x ≡ a ++ y → x ≡ y
-same_rest [] x y e = e
-same_rest (c ∷ a) x y e = let t : a ++ x ≡ a ++ y = cc in same_rest a x y t
-
 -- the count of a head's line, whatever the number of the round
 same_head : (r m n : ℕ) → head_line r m ≡ head_line r n → decimal m ≡ decimal n
 same_head r m n e =
-    let f : decimal r ++ 32 ∷ decimal m ≡ decimal r ++ 32 ∷ decimal n = same_rest (codes "round" ++ 32 ∷ []) (decimal r ++ 32 ∷ decimal m) (decimal r ++ 32 ∷ decimal n) e in
-    let g : 32 ∷ decimal m ≡ 32 ∷ decimal n = same_rest (decimal r) (32 ∷ decimal m) (32 ∷ decimal n) f in
+    let f = append_cancel_left (codes "round" ++ 32 ∷ []) (decimal r ++ 32 ∷ decimal m) (decimal r ++ 32 ∷ decimal n) e in
+    let g : 32 ∷ decimal m ≡ 32 ∷ decimal n = append_cancel_left (decimal r) (32 ∷ decimal m) (32 ∷ decimal n) f in
     cc
 
 -- a piece at a place has one place after it

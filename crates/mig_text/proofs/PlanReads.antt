@@ -6,7 +6,7 @@ use Rattle.mig_text.proofs.Common.{before_shifts, codes, decimal, head_line, inl
 use Rattle.mig_text.proofs.Common.{recursion_from_All, refl, round_lines, shift_line, subst, suc, sym, text_of_lines, words, ℕ, ◌++◌, ◌+◌, ◌-◌, ◌<◌, ◌∙◌, ◌∷◌, ◌≡◌, ◌≢◌, ◌≤◌}
 use Rattle.mig_text.proofs.PlanPlaces.{rounds_lead, line_no_plan}
 use Rattle.mig_text.specs.declared.errors.TextError.TheVariants as text_error
-use Rattle.mig_text.proofs.Stops.{took_none, took_one, took_both, took_next, miss_stops, later_stops}
+use Rattle.mig_text.proofs.Stops.{took_one, took_both, took_next, miss_stops, later_stops}
 
 module _ (input : InputLists) where
   pub title_stops : (old : Left) (e : TextError) → IsMiss (λ piece. piece ≡ codes "migration-plan 1") old e → IsStop (PlanNext input) Title Over old e
@@ -69,9 +69,6 @@ module _ (input : InputLists) where
       later_stops (PlanNext input) (Head r left) (Move more r left) Over old now (head_line r n ∷ map (shift_line input) shifts) e (part_leads r n more left shifts few sum part.fitting) part.took
       (miss_stops (PlanNext input) (Move more r left) Over (IsShiftLine input) now e (λ q. absurd cc) (λ piece next k. (k.0, (k.1.0, k.1.1))) m)
 
-  pub part_none : (r n : ℕ) (old now : Left) → Took old (head_line r n) now → IsRoundPart input r n 0 [] old now
-  part_none r n old now t = record { count = refl; fitting = λ k d h. absurd (omega arith); took = took_one old now _ t }
-
   pub part_more : (r n done : ℕ) (shifts : List Shift) (s : Shift) (old now new : Left) → IsRoundPart input r n done shifts old now → ShiftFits input s → Took now (shift_line input s) new
       → IsRoundPart input r n (done + 1) (shifts ++ s ∷ []) old new
   part_more r n done shifts s old now new part fits t = record {
@@ -80,18 +77,6 @@ module _ (input : InputLists) where
     took = subst (λ ls. TookAll old (head_line r n ∷ ls) new) (sym (map-append (shift_line input) shifts (s ∷ [])))
         (took_next old now new (head_line r n ∷ map (shift_line input) shifts) (shift_line input s) part.took t);
   }
-
-  pub part_done : (r n done : ℕ) (shifts : List Shift) (old now : Left) → IsRoundPart input r n done shifts old now → done ≡ n → n ≤ MAX_SHIFTS → IsRoundRead input r shifts old now
-  part_done r n done shifts old now part all few =
-      let same : n ≡ length shifts = sym (part.count ∙ all) in
-      record {
-        few = omega (arith, part.count);
-        fitting = part.fitting;
-        took = subst (λ m. TookAll old (head_line r m ∷ map (shift_line input) shifts) now) same part.took;
-      }
-
-  pub rounds_none : (old : Left) → AreRoundsRead input 0 [] old old
-  rounds_none old = record { count = refl; few_shifts = λ k d h. absurd (omega arith); fitting = λ k d h. absurd (omega arith); took = took_none old }
 
   -- one more round goes last
   round_lines_push : (r : ℕ) (rounds : List (List Shift)) (round : List Shift)
@@ -164,9 +149,6 @@ plan_line input bytes (text_error.Line n) valid short s =
     let same : s.0 ≡ n = omega (arith, s.1.0) in
     let line : IsLine (PlanNext input) Title Over bytes n = record { long = λ l. absurd (omega arith); short = λ _. subst (IsMisfit (PlanNext input) Title Over (pieces bytes)) same s.1.1 } in
     record { no_plan = line_no_plan input bytes n valid line; line = line }
-
-pub too_long : (input : InputLists) (bytes : List ℕ) → MAX_FILE_BYTES < length bytes → PlanLine input bytes 0
-too_long input bytes long = record { no_plan = λ plan text. long; line = record { long = λ _. refl; short = λ s. absurd (omega arith) } }
 
 -- the value of a text whose lines were read
 pub plan_text : (input f : InputLists) (bytes : List ℕ) (old : Left) (r : Result (List (List Shift)) TextError) → f ≡ input → old ≡ record { taken = 0; pieces = pieces bytes }

@@ -1,7 +1,10 @@
 -- A plan that moves each relocated item once has at most as many shifts as there are items.
-use Rattle.mig_text.proofs.Common.{All, AllByRecursion, Bool, InputLists, IsInput, List, MAX_FILE_BYTES, Once, PlanText, Runs, Shift, ShiftFits, [], ap, arith, cases_lt, cond, count_by, eqb, false}
-use Rattle.mig_text.proofs.Common.{get_or, get_or-range_with_len, get_or_default, inl, inr, is_of, is_relocated, length, length-decimal-le, length-range_with_len, nat_tests, one, range_with_len}
-use Rattle.mig_text.proofs.Common.{recursion_from_All, refl, shift_count, subst, suc, sum_by, sum_by-cons, sum_by-le_each, sum_by-swap, true, zero, ℕ, ◌+◌, ◌<◌, ◌∙◌, ◌∷◌, ◌≡◌, ◌≤◌}
+use Rattle.mig_text.proofs.Common.{All, AllByRecursion, InputLists, IsInput, List, MAX_FILE_BYTES, Once, PlanText, Runs, Shift, ShiftFits, [], ap}
+use Rattle.mig_text.proofs.Common.{arith, count_by, eqb, get_or, get_or-range_with_len, get_or_default, is_of, is_relocated, length}
+use Rattle.mig_text.proofs.Common.{length-decimal-le, length-range_with_len, one, range_with_len, recursion_from_All, refl, shift_count, subst}
+use Rattle.mig_text.proofs.Common.{sum_by, sum_by-cons, sum_by-le_each, sum_by-swap, ℕ, ◌+◌, ◌<◌, ◌∙◌, ◌∷◌, ◌≡◌, ◌≤◌}
+use Rattle.mig_base.proofs.Common.{eq-eqb, get_or-le-sum_by, ◌-◌}
+use Rattle.mig_base.proofs.Counting.{at_most_one}
 use Rattle.mig_text.proofs.PlanLengths.{shifts_in, plan_length}
 
 abbrev ones : {X : Type 0} → List X → ℕ
@@ -13,16 +16,12 @@ ones_are {X} (x ∷ xs) = let f : X → ℕ = λ y. 1 in omega (arith, sum_by-co
 
 -- a number of a range is in it
 in_range : (m a n : ℕ) → a ≤ m → m < a + n → 1 ≤ sum_by (λ i. one (eqb m i)) (range_with_len a n)
-in_range m a zero low high = absurd (omega arith)
-in_range m a (suc n) low high =
-    let cons = sum_by-cons (λ i. one (eqb m i)) a (range_with_len (a + 1) n) in
-    elim (cases_lt a m) [
-      | inl less ↦ omega (arith, cons, in_range m (a + 1) n (omega arith) (omega arith))
-      | inr not_less ↦
-          let same : a ≡ m = omega arith in
-          let here : one (eqb m a) ≡ 1 = ap one (let t : eqb m a ≡ true = grind (arith, nat_tests) in t) in
-          omega (arith, cons, here)
-    ]
+in_range m a n low high =
+    let f : ℕ → ℕ = λ i. one (eqb m i) in
+    let range = range_with_len a n in
+    let at : get_or range (m - a) 0 ≡ m = omega (arith, get_or-range_with_len a n (m - a) 0 (omega arith)) in
+    let here : f (get_or range (m - a) 0) ≡ 1 = ap f at ∙ ap one (eq-eqb m m refl) in
+    omega (arith, here, get_or-le-sum_by f range (m - a) 0 (omega (arith, length-range_with_len a n)))
 
 -- shifts of so many items are as many as the items' counts together
 round_counts : (n : ℕ) (round : List Shift) → All (λ (s : Shift). s.item.0 < n) round → length round ≤ sum_by (λ i. count_by (is_of i) round) (range_with_len 0 n)
@@ -35,10 +34,6 @@ plan_counts : (n : ℕ) (plan : List (List Shift)) → AllByRecursion (λ (round
 plan_counts n [] h = omega arith
 plan_counts n (round ∷ plan) h =
     omega (arith, sum_by-cons (λ (r : List Shift). sum_by (λ i. count_by (is_of i) r) (range_with_len 0 n)) round plan, round_counts n round h.0, plan_counts n plan h.1)
-
-at_most_one : (b : Bool) → cond b 1 0 ≤ 1
-at_most_one true = omega arith
-at_most_one false = omega arith
 
 -- where each item stands in one shift at most, the shifts are at most as many as the items
 pub few_shifts : (input : InputLists) (plan : List (List Shift)) → Once input plan → All (λ (round : List Shift). All (ShiftFits input) round) plan → shifts_in plan ≤ length input.items

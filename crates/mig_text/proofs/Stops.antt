@@ -4,9 +4,6 @@ use Rattle.mig_text.proofs.Common.{◌++◌, ◌+◌, ◌∙◌, ◌∷◌, ◌�
 use Rattle.mig_text.specs.declared.errors.TextError.TheVariants as text_error
 use Rattle.mig_text.proofs.Places.{later_misfit}
 
-pub took_none : (old : Left) → TookAll old [] old
-took_none old = record { cut = refl; number = omega arith }
-
 pub took_one : (old new : Left) (piece : List ℕ) → Took old piece new → TookAll old (piece ∷ []) new
 took_one old new piece t = record { cut = t.cut; number = omega (arith, t.number) }
 

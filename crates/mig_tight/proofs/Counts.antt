@@ -1,8 +1,10 @@
 -- A disk that is full of items that belong there has no item that waits for it.
-use Rattle.mig_tight.proofs.Common.{AreClearedBelow, AreUnawaited, Bool, Contains, DiskId, Fits, InputLists, IsInput, IsOnNext, IsRoomy, IsSoundState, ItemId, List, PlanState, Spot, WaitsFor, [], ap}
-use Rattle.mig_tight.proofs.Common.{arith, cases_eq, count_by, count_by-filter, count_by-filter-le, count_on, eq-eqb, eqb, false, fill_by_all, get_or, get_or-range_with_len, get_or-set_other}
-use Rattle.mig_tight.proofs.Common.{get_or_default, incoming, inl, inr, is_relocated, length, length-range_with_len, length-set, nat_tests, ne_eqb, no_spot, none_pass, one, queue_at}
-use Rattle.mig_tight.proofs.Common.{range_with_len, refl, set, source, spot_at, subst, sum_by-map, sum_by-set, sym, target, true, wanted, ℕ, ⊎_elim, ◌&&◌, ◌+◌, ◌<◌, ◌∙◌, ◌≡◌, ◌≢◌, ◌≤◌}
+use Rattle.mig_tight.proofs.Common.{AreClearedBelow, AreUnawaited, Bool, Contains, DiskId, Fits, InputLists, IsInput, IsOnNext, IsRoomy, IsSoundState}
+use Rattle.mig_tight.proofs.Common.{ItemId, List, PlanState, Spot, WaitsFor, [], ap, arith, cases_eq, count_by, count_by-filter, count_by-filter-le}
+use Rattle.mig_tight.proofs.Common.{count_on, eq-eqb, eqb, false, fill_by_all, get_or, get_or-range_with_len, get_or-set_other, get_or_default}
+use Rattle.mig_tight.proofs.Common.{incoming, inl, inr, is_relocated, length, length-range_with_len, length-set, nat_tests, ne_eqb, no_spot}
+use Rattle.mig_tight.proofs.Common.{none_pass, one, queue_at, range_with_len, refl, set, spot_at, subst, sum_by-map, sum_by-set, sym, target, true}
+use Rattle.mig_tight.proofs.Common.{wanted, ℕ, ◌&&◌, ◌+◌, ◌<◌, ◌∙◌, ◌≡◌, ◌≢◌, ◌≤◌}
 use Rattle.mig_tight.proofs.ListLaws.{count_by-two, count_by-each}
 use Rattle.mig_tight.proofs.Histories.{relocated_from}
 
@@ -33,9 +35,7 @@ on_self v = eq-eqb v v refl
 
 -- as if an item were on a disk where it isn't
 one_on : (spots : List Spot) (i v : ℕ) → i < length spots → (spot_at spots i).disk.0 ≢ v → count_on v (set spots i (spot_on v)) ≡ count_on v spots + 1
-one_on spots i v there off =
-    let f : Spot → ℕ = λ s. one (eqb s.disk.0 v) in
-    omega (arith, sum_by-set f spots i (spot_on v) no_spot there, ap one (ne_eqb (spot_at spots i).disk.0 v off), ap one (on_self v))
+one_on spots i v there off = grind (arith, sum_by-set, no_spot, ne_eqb, on_self)
 
 -- no more items come to a disk than belong there
 incoming_le : (input : InputLists) → IsInput input → (v : ℕ) → incoming input v ≤ wanted input v
@@ -49,18 +49,7 @@ module _ (input : InputLists) (is : IsInput input) (s : PlanState) (st : IsSound
   -- Where all items have been seen to, all are on their next disks
   module _ (fits : Fits input) (cleared : AreClearedBelow input s (length input.items)) where
     belongs : (v : ℕ) → (queue_at s.waiting v ≡ [] → ⊥) → (k : ℕ) → k < length input.items → (spot_at s.spots k).disk.0 ≡ v → target input k ≡ v
-    belongs v some k l at = elim (cases_eq (target input k) v) [
-      | inl e ↦ e
-      | inr ne ↦ ⊎_elim
-          (λ u.
-          let same : source input k ≡ v = ap (λ (x : Spot). x.disk.0) (sym u.spot) ∙ at in
-          absurd (some (ap (queue_at s.waiting) (sym same) ∙ cleared k l (relocated_from input k (λ e. ne (sym e ∙ same))) u.spot)))
-          (λ more. ⊎_elim
-          (λ p. absurd (some (ap (queue_at s.waiting) (sym at) ∙ p.unawaited)))
-          (λ h. sym h.on_next ∙ at)
-          more)
-          (st.history k l)
-    ]
+    belongs v some k l at = grind (arith, cases_eq, relocated_from)
 
     pub all_on_next : (item : ℕ) → item < length input.items → IsOnNext input s.spots item
     all_on_next i there = elim (cases_eq (spot_at s.spots i).disk.0 (target input i)) [
@@ -86,14 +75,8 @@ module _ (input : InputLists) (is : IsInput input) (s : PlanState) (st : IsSound
     awaited : queue_at s.waiting v ≡ [] → ⊥
     awaited none = absurd (omega (arith, some, ap (λ (q : List ItemId). length q) none))
 
-    first : ItemId
-    first = get_or (queue_at s.waiting v) 0 (record { 0 = 0 })
-
     waits : WaitsFor input s.spots v (get_or (queue_at s.waiting v) 0 (record { 0 = 0 }))
     waits = st.queues.all_wait v there 0 (record { 0 = 0 }) some
-
-    is_move : (b c d : Bool) → one (b && c) ≤ one (b && c)
-    is_move b c d = omega arith
 
     moved : (b c : Bool) → b ≡ true → c ≡ true → one (b && c) ≡ 1
     moved b c e f = grind (arith, nat_tests)
@@ -109,19 +92,10 @@ module _ (input : InputLists) (is : IsInput input) (s : PlanState) (st : IsSound
     is_goes k r t = moved (is_relocated input k) (eqb (target input k) v) r (eq-eqb (target input k) v t)
 
     relocated_away : (k : ℕ) → k < length input.items → (IsOnNext input s.spots k → ⊥) → is_relocated input k ≡ true
-    relocated_away k l away = ⊎_elim
-        (λ u. relocated_from input k (λ e. away (ap (λ (x : Spot). x.disk.0) u.spot ∙ e)))
-        (λ more. ⊎_elim (λ p. p.relocated) (λ h. h.relocated) more)
-        (st.history k l)
+    relocated_away k l away = grind (arith, relocated_from)
 
     counts : (k : ℕ) → k < length input.items → (spot_at s.spots k).disk.0 ≡ v → 1 ≤ one (eqb (spot_at input.spots k).disk.0 v) + one (is_relocated input k && eqb (target input k) v)
-    counts k l at = ⊎_elim
-        (λ u. omega (arith, ap one (eq-eqb (spot_at input.spots k).disk.0 v (ap (λ (x : Spot). x.disk.0) (sym u.spot) ∙ at))))
-        (λ more. ⊎_elim
-        (λ p. absurd (awaited (ap (queue_at s.waiting) (sym at) ∙ p.unawaited)))
-        (λ h. omega (arith, is_goes k h.relocated (sym h.on_next ∙ at)))
-        more)
-        (st.history k l)
+    counts k l at = grind (arith, eq-eqb, awaited, is_goes)
 
     pub tight : IsRoomy input → ⊥
     tight roomy =

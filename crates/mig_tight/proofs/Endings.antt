@@ -1,10 +1,13 @@
 -- Where all items are on their next disks, the rounds are a plan.
-use Rattle.mig_tight.proofs.Common.{All, All-head, At, Bool, DiskId, Err, Fits, HasFreeSlot, HasMove, HasNoPlanUnlessMemory, IfErr, IfOk, IsArrivedAt, IsErrAnd, IsInput, IsNoFreeOrMemory}
-use Rattle.mig_tight.proofs.Common.{InputLists, IsOnNext, IsRoomy, IsSoundState, IsTightCause, IsTightPlan, IsTooManyOrMemory, Layout, List, Memory, NoFree, Ok, Once, Option, PlanFits, PlanState, Result}
-use Rattle.mig_tight.proofs.Common.{Runs, Shift, ShiftFits, Some, Spot, TightError, TooMany, [], ap, arith, cases_eq, cond, count_by, count_by-le-one, eq-eqb, eqb, false, false≢true, get_or}
-use Rattle.mig_tight.proofs.Common.{get_or-le-sum_by, get_or-range_with_len, inl, inr, is_of, is_relocated, layout_of, length, length-filter, length-range_with_len, moves, nat_tests, no_spot}
-use Rattle.mig_tight.proofs.Common.{one, option_map, parked, range_with_len, refl, same_disk, shift_count, slice_get, slice_get-get_or, source, spot_at, subst, sum_by, sum_by-add}
-use Rattle.mig_tight.proofs.Common.{sum_by-cons, sum_by-le, sum_by-le_each, sum_by-same_each, sum_by-swap, sym, target, true, ℕ, ⊎_elim, ◌+◌, ◌<◌, ◌∙◌, ◌∷◌, ◌≡◌, ◌≤◌}
+use Rattle.mig_tight.proofs.Common.{All, All-head, At, Bool, DiskId, Err, Fits, HasFreeSlot, HasMove, HasNoPlanUnlessMemory, IfErr, IfOk, InputLists}
+use Rattle.mig_tight.proofs.Common.{IsArrivedAt, IsErrAnd, IsInput, IsNoFreeOrMemory, IsOnNext, IsRoomy, IsSoundState, IsTightCause, IsTightPlan}
+use Rattle.mig_tight.proofs.Common.{IsTooManyOrMemory, Layout, List, Memory, NoFree, Ok, Once, Option, PlanFits, PlanState, Result, Runs, Shift}
+use Rattle.mig_tight.proofs.Common.{ShiftFits, Some, Spot, TightError, TooMany, [], ap, arith, cases_eq, cond, count_by, count_by-le-one, eq-eqb, eqb}
+use Rattle.mig_tight.proofs.Common.{false, false≢true, get_or, get_or-le-sum_by, get_or-range_with_len, inl, inr, is_of, is_relocated, layout_of}
+use Rattle.mig_tight.proofs.Common.{length, length-filter, length-range_with_len, moves, nat_tests, no_spot, one, option_map, parked, range_with_len}
+use Rattle.mig_tight.proofs.Common.{refl, same_disk, shift_count, slice_get, slice_get-get_or, source, spot_at, subst, sum_by, sum_by-add}
+use Rattle.mig_tight.proofs.Common.{sum_by-cons, sum_by-le, sum_by-le_each, sum_by-same_each, sum_by-swap, sym, target, true, ℕ, ◌+◌, ◌<◌, ◌∙◌, ◌∷◌}
+use Rattle.mig_tight.proofs.Common.{◌≡◌, ◌≤◌}
 use Rattle.mig_tight.proofs.Histories.{relocated_from}
 use Rattle.mig_tight.proofs.StateSteps.{relocated_apart}
 use Rattle.mig_tight.proofs.RunningPlans.{runs_fits, runs_free}
@@ -23,26 +26,13 @@ module _ (input : InputLists) (is : IsInput input) (s : PlanState) (st : IsSound
   runs = record { rounds = st.reaches.legal; arrives = arrived }
 
   shifted_some : (item : ℕ) → item < length input.items → is_relocated input item ≡ true → (1 ≤ shift_count s.rounds item) × (shift_count s.rounds item ≤ 2)
-  shifted_some item l r = ⊎_elim
-      (λ u. absurd (relocated_apart input item r (ap (λ (x : Spot). x.disk.0) (sym u.spot) ∙ on_next item l)))
-      (λ more. ⊎_elim (λ p. absurd (p.away (on_next item l))) (λ h. (h.some, h.most)) more)
-      (st.history item l)
+  shifted_some item l r = grind (arith, relocated_apart)
 
   shifted_none : (item : ℕ) → item < length input.items → is_relocated input item ≡ false → shift_count s.rounds item ≡ 0
-  shifted_none item l f = ⊎_elim
-      (λ u. u.count)
-      (λ more. ⊎_elim (λ p. absurd (false≢true (sym f ∙ p.relocated))) (λ h. absurd (false≢true (sym f ∙ h.relocated))) more)
-      (st.history item l)
+  shifted_none item l f = grind (arith, false≢true)
 
   shifted_once : IsRoomy input → Once input s.rounds
-  shifted_once roomy item l = by_case (is_relocated input item) refl
-    where
-      by_case : (b : Bool) → is_relocated input item ≡ b → shift_count s.rounds item ≡ cond (is_relocated input item) 1 0
-      by_case true e = ⊎_elim
-          (λ u. absurd (relocated_apart input item e (ap (λ (x : Spot). x.disk.0) (sym u.spot) ∙ on_next item l)))
-          (λ more. ⊎_elim (λ p. absurd (p.away (on_next item l))) (λ h. h.once roomy) more)
-          (st.history item l) ∙ sym (ap {B = ℕ} (λ c. cond c 1 0) e)
-      by_case false e = shifted_none item l e ∙ sym (ap {B = ℕ} (λ c. cond c 1 0) e)
+  shifted_once roomy item l = grind (arith, relocated_apart, shifted_none)
 
   pub tight_end : IsTightPlan input s.rounds
   tight_end = record { runs = runs; single = st.reaches.single; relocated = shifted_some; others = shifted_none; once = shifted_once }
@@ -64,13 +54,7 @@ round_counted input (s ∷ ss) some fits =
 
 -- a round of one shift is counted once
 range_once : (n k : ℕ) → count_by (λ i. eqb k i) (range_with_len 0 n) ≤ 1
-range_once n k = count_by-le-one (λ i. eqb k i) (range_with_len 0 n) (λ i j d l m h g.
-    let j_at = get_or-range_with_len 0 n j d (omega (arith, m, length-range_with_len 0 n)) in
-    let i_at = get_or-range_with_len 0 n i d (omega (arith, l, m, length-range_with_len 0 n)) in
-    absurd (omega (arith, l, i_at, j_at, is k (get_or (range_with_len 0 n) i d) h, is k (get_or (range_with_len 0 n) j d) g)))
-  where
-    is : (a b : ℕ) → eqb a b ≡ true → a ≡ b
-    is a b h = grind (arith, nat_tests)
+range_once n k = grind (arith, count_by-le-one, get_or-range_with_len, length-range_with_len, nat_tests)
 
 one_shift : (s : Shift) (i : ℕ) → count_by (is_of i) (s ∷ []) ≡ one (eqb s.item.0 i)
 one_shift s i = omega (arith, sum_by-cons (λ x. one (is_of i x)) s [])
@@ -115,14 +99,7 @@ few_rounds input rounds few single fits most =
     omega (arith, each, sum_ones rounds, swap, all, length-range_with_len 0 n, few)
 
 pub plan_fits : (input : InputLists) (s : PlanState) → IsInput input → IsSoundState input s → PlanFits input s.rounds
-plan_fits input s is st = record {
-  few_rounds = few_rounds input s.rounds is.few_items st.reaches.single st.reaches.fits (λ item l. ⊎_elim
-      (λ u. omega (arith, u.count))
-      (λ more. ⊎_elim (λ p. omega (arith, p.count)) (λ h. h.most) more)
-      (st.history item l));
-  few_shifts = λ k d l. omega (arith, st.reaches.single k d l);
-  shifts = st.reaches.fits;
-}
+plan_fits input s is st = grind (arith, few_rounds)
 
 -- where nothing is relocated, no round is a plan
 pub tight_nothing : (input : InputLists) → IsInput input → (HasMove input → ⊥) → IsTightPlan input []
@@ -152,9 +129,6 @@ tight_nothing input is none =
     by_case : (item : ℕ) (b : Bool) → is_relocated input item ≡ b → (is_relocated input item ≡ true → ⊥) → shift_count [] item ≡ cond (is_relocated input item) 1 0
     by_case item true e not_moved = absurd (not_moved e)
     by_case item false e not_moved = sym (ap {B = ℕ} (λ c. cond c 1 0) e)
-
-pub fits_nothing : (input : InputLists) → PlanFits input []
-fits_nothing input = record { few_rounds = omega arith; few_shifts = λ k d l. absurd (omega (arith, l)); shifts = λ k d l. absurd (omega (arith, l)) }
 
 -- What is so of a plan that is found, and of each cause, says when each answer comes
 module _ (input : InputLists) (is : IsInput input) where

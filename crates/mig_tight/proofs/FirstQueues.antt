@@ -1,8 +1,8 @@
 -- The queues of the first n items.
-use Rattle.mig_tight.proofs.Common.{All, All-push, AreDifferent, AreQueues, Contains, Contains-append_left, Contains-push, InputLists, IsInput, ItemId, List, WaitsFor, [], ap, arith, cases_eq}
-use Rattle.mig_tight.proofs.Common.{cases_lt, false, false≢true, get_or, get_or-set_other, get_or-set_same, get_or_append_left, get_or_push, inl, inr, is_relocated, length, length-set}
-use Rattle.mig_tight.proofs.Common.{length_push, queue_at, set, source, subst, sym, target, true, ℕ, ◌++◌, ◌+◌, ◌<◌, ◌∙◌, ◌∷◌, ◌≡◌, ◌≢◌}
-use Rattle.mig_tight.proofs.Histories.{relocated_from}
+use Rattle.mig_tight.proofs.Common.{All, All-push, AreDifferent, Contains, Contains-append_left, Contains-push, InputLists, IsInput, ItemId, List}
+use Rattle.mig_tight.proofs.Common.{WaitsFor, [], ap, arith, cases_eq, cases_lt, false, false≢true, get_or, get_or-set_other, get_or-set_same}
+use Rattle.mig_tight.proofs.Common.{get_or_append_left, get_or_push, inl, inr, is_relocated, length, length-set, length_push, queue_at, set, source}
+use Rattle.mig_tight.proofs.Common.{subst, sym, target, true, ℕ, ◌++◌, ◌+◌, ◌<◌, ◌∙◌, ◌∷◌, ◌≡◌, ◌≢◌}
 
 abbrev id : ℕ → ItemId
 id item = record { 0 = item }
@@ -16,35 +16,10 @@ pub record AreQueuesBelow (input : InputLists) (n : ℕ) (waiting : List (List I
 
 -- different elements and one that none of them is
 pub apart_push : {X : Type 0} (xs : List X) (x : X) → AreDifferent xs → ((k : ℕ) (d : X) → k < length xs → get_or xs k d ≢ x) → AreDifferent (xs ++ x ∷ [])
-apart_push xs x apart fresh i j d l m = elim (cases_lt j (length xs)) [
-  | inl lt ↦ λ e. apart i j d l lt (sym (get_or_append_left xs (x ∷ []) d i (omega (arith, l, lt))) ∙ e ∙ get_or_append_left xs (x ∷ []) d j lt)
-  | inr ge ↦
-      let at : j ≡ length xs = omega (arith, m, ge, length_push xs x) in
-      λ e. fresh i d (omega (arith, l, at)) (sym (get_or_append_left xs (x ∷ []) d i (omega (arith, l, at))) ∙ e ∙ get_or_push xs x d j (sym at))
-]
-
-pub queued_start : (input : InputLists) (waiting : List (List ItemId)) → length waiting ≡ length input.disks → All (λ q. q ≡ []) waiting → AreQueuesBelow input 0 waiting
-queued_start input waiting len none =
-    let empty : (v : ℕ) → v < length input.disks → queue_at waiting v ≡ [] = λ v h. none v [] (omega (arith, h, len)) in
-    record {
-      len = len;
-      all_wait = λ v h k d l. absurd (omega (arith, l, ap (λ (q : List ItemId). length q) (empty v h)));
-      below = λ v h k d l. absurd (omega (arith, l, ap (λ (q : List ItemId). length q) (empty v h)));
-      apart = λ v h i j d l m. absurd (omega (arith, m, ap (λ (q : List ItemId). length q) (empty v h)));
-      everyone = λ item h. absurd (omega (arith, h));
-    }
+apart_push xs x apart fresh i j d l m = grind (arith, cases_lt, get_or_append_left, length_push, get_or_push)
 
 pub queued_stays : (input : InputLists) (n : ℕ) (waiting : List (List ItemId)) → is_relocated input n ≡ false → AreQueuesBelow input n waiting → AreQueuesBelow input (n + 1) waiting
-queued_stays input n waiting f q = record {
-  len = q.len;
-  all_wait = q.all_wait;
-  below = λ v h k d l. omega (arith, q.below v h k d l);
-  apart = q.apart;
-  everyone = λ item h r. elim (cases_eq item n) [
-    | inl at ↦ absurd (false≢true (sym f ∙ ap (is_relocated input) (sym at) ∙ r))
-    | inr off ↦ q.everyone item (omega (arith, h, off)) r
-  ];
-}
+queued_stays input n waiting f q = grind (arith, cases_eq, false≢true)
 
 module _ (input : InputLists) (is : IsInput input) (n : ℕ) (waiting : List (List ItemId)) (there : n < length input.items) (t : is_relocated input n ≡ true) (away : source input n ≢ target input n) (q : AreQueuesBelow input n waiting) (v : ℕ) (goes : v ≡ target input n) (new : List ItemId) (more : new ≡ queue_at waiting v ++ id n ∷ []) where
   pub disk_there : v < length input.disks
@@ -61,10 +36,7 @@ module _ (input : InputLists) (is : IsInput input) (n : ℕ) (waiting : List (Li
 
   -- what holds of each queue and of the longer one holds of each queue after
   each : (P : ℕ → List ItemId → Type 0) → ((u : ℕ) → u < length input.disks → P u (queue_at waiting u)) → P v (queue_at waiting v ++ id n ∷ []) → (u : ℕ) → u < length input.disks → P u (queue_at (set waiting v new) u)
-  each P old longer u h = elim (cases_eq u v) [
-    | inl at ↦ subst (λ w. P w (queue_at (set waiting v new) w)) (sym at) (subst (λ (l : List ItemId). P v l) (sym here) longer)
-    | inr off ↦ subst (λ (l : List ItemId). P u l) (sym (elsewhere u off)) (old u h)
-  ]
+  each P old longer u h = grind (arith, cases_eq, here, elsewhere)
 
   pub queued_goes : AreQueuesBelow input (n + 1) (set waiting v new)
   queued_goes = record {
@@ -84,11 +56,3 @@ module _ (input : InputLists) (is : IsInput input) (n : ℕ) (waiting : List (Li
           ]
     ];
   }
-
-pub queued_end : (input : InputLists) (n : ℕ) (waiting : List (List ItemId)) → n ≡ length input.items → AreQueuesBelow input n waiting → AreQueues input input.spots waiting
-queued_end input n waiting all q = record {
-  len = q.len;
-  all_wait = q.all_wait;
-  apart = q.apart;
-  everyone = λ item h away. q.everyone item (omega (arith, h, all)) (relocated_from input item away);
-}

@@ -1,7 +1,7 @@
 -- What items have been through, after one shift more.
-use Rattle.mig_tight.proofs.Common.{History, InputLists, IsOnNext, IsRoomy, List, PlanState, Shift, Spot, [], ap, arith, cond, count_by, eq-eqb, eqb, get_or-set_same, inl, inr, is_of, is_relocated}
-use Rattle.mig_tight.proofs.Common.{length, ne_eqb, no_spot, not, queue_at, refl, set, shift_count, source, spot_at, sum_by-cons, sum_by_push, sym, target, true, ℕ, ◌++◌, ◌+◌, ◌<◌, ◌∙◌}
-use Rattle.mig_tight.proofs.Common.{◌∷◌, ◌≡◌, ◌≢◌}
+use Rattle.mig_tight.proofs.Common.{History, InputLists, IsOnNext, IsRoomy, List, PlanState, Shift, Spot, [], ap, arith, cond, count_by, eq-eqb, eqb}
+use Rattle.mig_tight.proofs.Common.{get_or-set_same, inl, inr, is_of, is_relocated, length, ne_eqb, no_spot, not, queue_at, refl, set, shift_count}
+use Rattle.mig_tight.proofs.Common.{source, spot_at, sum_by-cons, sum_by_push, sym, target, true, ℕ, ◌++◌, ◌+◌, ◌<◌, ◌∙◌, ◌∷◌, ◌≡◌, ◌≢◌}
 use Rattle.mig_tight.proofs.Queueing.{spot_other}
 
 -- how many shifts an item has after one round more
@@ -35,45 +35,15 @@ module _ (input : InputLists) (spots : List Spot) (rounds : List (List Shift)) (
     -- the other items
     pub history_other : (item : ℕ) → item ≢ s.item.0 → History input a item → History input b item
     history_other item ne (inl u) = inl (record { count = other_count item ne ∙ u.count; spot = other_spot item ne ∙ u.spot })
-    history_other item ne (inr (inl p)) = inr (inl (record {
-      relocated = p.relocated;
-      count = other_count item ne ∙ p.count;
-      away = λ h. p.away (ap (λ (x : Spot). x.disk.0) (sym (other_spot item ne)) ∙ h);
-      unawaited = ap (λ (x : Spot). queue_at b.waiting x.disk.0) (other_spot item ne) ∙ queues (spot_at a.spots item).disk.0 p.unawaited;
-      tight = p.tight;
-    }))
-    history_other item ne (inr (inr h)) = inr (inr (record {
-      relocated = h.relocated;
-      on_next = ap (λ (x : Spot). x.disk.0) (other_spot item ne) ∙ h.on_next;
-      some = omega (arith, other_count item ne, h.some);
-      most = omega (arith, other_count item ne, h.most);
-      once = λ r. other_count item ne ∙ h.once r;
-    }))
+    history_other item ne (inr (inl p)) = grind (arith, other_count, other_spot)
+    history_other item ne (inr (inr h)) = grind (arith, other_spot, other_count)
 
   -- an item that goes to its next disk
   pub history_filled : (IsOnNext input a.spots s.item.0 → ⊥) → s.to.disk.0 ≡ target input s.item.0 → History input a s.item.0 → History input b s.item.0
-  history_filled away on (inl u) = inr (inr (record {
-    relocated = relocated_from input s.item.0 (λ e. away (ap (λ (x : Spot). x.disk.0) u.spot ∙ e));
-    on_next = ap (λ (x : Spot). x.disk.0) own_spot ∙ on;
-    some = omega (arith, own_count, u.count);
-    most = omega (arith, own_count, u.count);
-    once = λ r. omega (arith, own_count, u.count);
-  }))
-  history_filled away on (inr (inl p)) = inr (inr (record {
-    relocated = p.relocated;
-    on_next = ap (λ (x : Spot). x.disk.0) own_spot ∙ on;
-    some = omega (arith, own_count, p.count);
-    most = omega (arith, own_count, p.count);
-    once = λ r. absurd (p.tight r);
-  }))
+  history_filled away on (inl u) = grind (arith, relocated_from, own_spot, own_count)
+  history_filled away on (inr (inl p)) = grind (arith, own_spot, own_count)
   history_filled away on (inr (inr h)) = absurd (away h.on_next)
 
   -- an item that is parked, for the first time
   pub history_parked : is_relocated input s.item.0 ≡ true → (IsRoomy input → ⊥) → s.to.disk.0 ≢ target input s.item.0 → queue_at b.waiting s.to.disk.0 ≡ [] → shift_count a.rounds s.item.0 ≡ 0 → History input b s.item.0
-  history_parked relocated tight far unawaited none = inr (inl (record {
-    relocated = relocated;
-    count = own_count ∙ omega (arith, none);
-    away = λ h. far (ap (λ (x : Spot). x.disk.0) (sym own_spot) ∙ h);
-    unawaited = ap (λ (x : Spot). queue_at b.waiting x.disk.0) own_spot ∙ unawaited;
-    tight = tight;
-  }))
+  history_parked relocated tight far unawaited none = grind (arith, own_count, own_spot)

@@ -1,6 +1,7 @@
 -- Lists of different elements, and counts of lists side by side.
-use Rattle.mig_tight.proofs.Common.{AllPairs, AreDifferent, Bool, Contains, List, [], ap, arith, cases_eq, count_by, false, false≢true, get_or, get_or-set_other, get_or-set_same, get_or_default}
-use Rattle.mig_tight.proofs.Common.{inl, inr, length, length-set, one, refl, same_place, set, suc, sum_by-cons, sym, true, ℕ, ◌+◌, ◌<◌, ◌∙◌, ◌∷◌, ◌≡◌, ◌≢◌, ◌≤◌}
+use Rattle.mig_tight.proofs.Common.{AllPairs, AreDifferent, Bool, Contains, List, [], arith, cases_eq, count_by, false, false≢true, get_or}
+use Rattle.mig_tight.proofs.Common.{get_or-set_other, get_or-set_same, get_or_default, length, length-set, one, refl, same_place, set, suc}
+use Rattle.mig_tight.proofs.Common.{sum_by-cons, sym, true, ℕ, ◌+◌, ◌<◌, ◌∙◌, ◌∷◌, ◌≡◌, ◌≢◌, ◌≤◌}
 
 pub pairs_one : {X : Type 0} (R : X → X → Type 0) (x : X) → AllPairs R (x ∷ [])
 pairs_one R x i j d l m = absurd (omega arith)
@@ -15,23 +16,11 @@ module _ {X : Type 0} (xs : List X) (k : ℕ) (x : X) (apart : AreDifferent xs) 
   at_other i d l e = fresh (i, l, get_or_default xs i x d l ∙ sym e)
 
   pub set_apart : AreDifferent (set xs k x)
-  set_apart i j d l m =
-      let hj : j < length xs = omega (arith, m, length-set xs k x) in
-      let hi : i < length xs = omega (arith, l, hj) in
-      elim (cases_eq i k) [
-        | inl at ↦ λ e. at_other j d hj (sym (get_or-set_same xs k x d (omega (arith, at, hi))) ∙ ap (λ n. get_or (set xs k x) n d) (sym at) ∙ e ∙ get_or-set_other xs k j x d (λ f. absurd (omega (arith, f, at, l))))
-        | inr off ↦ elim (cases_eq j k) [
-          | inl at ↦ λ e. at_other i d hi (sym (get_or-set_same xs k x d (omega (arith, at, hj))) ∙ ap (λ n. get_or (set xs k x) n d) (sym at) ∙ sym e ∙ get_or-set_other xs k i x d off)
-          | inr off_j ↦ λ e. apart i j d l hj (sym (get_or-set_other xs k i x d off) ∙ e ∙ get_or-set_other xs k j x d off_j)
-        ]
-      ]
+  set_apart i j d l m = grind (arith, length-set, cases_eq, at_other, get_or-set_same, get_or-set_other)
 
 -- an element of a list into which x was put is x, or is found at another place of the list
 pub contains_set : {X : Type 0} (xs : List X) (k : ℕ) (x y : X) → k < length xs → Contains (set xs k x) y → (x ≡ y → ⊥) → (i : ℕ) × (i ≢ k) × (i < length xs) × (get_or xs i y ≡ y)
-contains_set xs k x y there (i, l, is) ne = elim (cases_eq i k) [
-  | inl at ↦ absurd (ne (sym (get_or-set_same xs k x y there) ∙ ap (λ n. get_or (set xs k x) n y) (sym at) ∙ is))
-  | inr off ↦ (i, off, omega (arith, l, length-set xs k x), sym (get_or-set_other xs k i x y off) ∙ is)
-]
+contains_set xs k x y there (i, l, is) ne = grind (arith, cases_eq, get_or-set_same, length-set, get_or-set_other)
 
 -- counts of lists side by side
 pub count_by-two : {X Y Z : Type 0} (p : X → Bool) (q : Y → Bool) (r : Z → Bool) (d : X) (e : Y) (f : Z) (xs : List X) (ys : List Y) (zs : List Z) → length xs ≡ length ys → length xs ≡ length zs → ((k : ℕ) → k < length xs → one (p (get_or xs k d)) ≤ one (q (get_or ys k e)) + one (r (get_or zs k f))) → count_by p xs ≤ count_by q ys + count_by r zs

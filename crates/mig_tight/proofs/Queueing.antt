@@ -47,10 +47,7 @@ module _ (input : InputLists) (spots : List Spot) (waiting : List (List ItemId))
   elsewhere u ne = get_or-set_other waiting v u rest [] ne
 
   rest_waits : All (WaitsFor input (set spots x.0 to) v) rest
-  rest_waits k d l =
-      let all : All (WaitsFor input spots v) (rest ++ x ∷ []) = subst (λ (m : List ItemId). All (WaitsFor input spots v) m) was (q.all_wait v there) in
-      waits_other input spots x.0 to v (get_or rest k d) (other_in k d l)
-      (subst (λ (y : ItemId). WaitsFor input spots v y) (get_or_append_left rest (x ∷ []) d k l) (all k d (omega (arith, l, last_there))))
+  rest_waits k d l = grind (arith, waits_other, other_in, get_or_append_left, last_there)
 
   far_waits : (u : ℕ) → u < length input.disks → u ≢ v → All (WaitsFor input (set spots x.0 to) u) (queue_at waiting u)
   far_waits u h ne k d l =
@@ -81,25 +78,11 @@ module _ (input : InputLists) (spots : List Spot) (waiting : List (List ItemId))
       ]
 
   pub AreQueues-filled : AreQueues input (set spots x.0 to) (set waiting v rest)
-  AreQueues-filled = record {
-    len = length-set waiting v rest ∙ q.len;
-    all_wait = λ u h. elim (cases_eq u v) [
-      | inl at ↦ subst (λ (l : List ItemId). All (WaitsFor input (set spots x.0 to) u) l) (sym (ap (queue_at (set waiting v rest)) at ∙ here)) (subst (λ (w : ℕ). All (WaitsFor input (set spots x.0 to) w) rest) (sym at) rest_waits)
-      | inr off ↦ subst (λ (l : List ItemId). All (WaitsFor input (set spots x.0 to) u) l) (sym (elsewhere u off)) (far_waits u h off)
-    ];
-    apart = λ u h. elim (cases_eq u v) [
-      | inl at ↦ subst (λ (l : List ItemId). AreDifferent l) (sym (ap (queue_at (set waiting v rest)) at ∙ here)) rest_apart
-      | inr off ↦ subst (λ (l : List ItemId). AreDifferent l) (sym (elsewhere u off)) (q.apart u h)
-    ];
-    everyone = still;
-  }
+  AreQueues-filled = grind (arith, length-set, cases_eq, here, rest_waits, elsewhere, far_waits, rest_apart, still)
 
   -- where nobody waited, nobody waits
   pub shorter : (u : ℕ) → queue_at waiting u ≡ [] → queue_at (set waiting v rest) u ≡ []
-  shorter u none = elim (cases_eq u v) [
-    | inl at ↦ absurd (omega (arith, last_there, ap (λ (l : List ItemId). length l) (sym was ∙ ap (queue_at waiting) (sym at) ∙ none)))
-    | inr off ↦ elsewhere u off ∙ none
-  ]
+  shorter u none = grind (arith, cases_eq, last_there, elsewhere)
 
 -- an item that waits went to a disk that isn't its next disk
 module _ (input : InputLists) (spots : List Spot) (waiting : List (List ItemId)) (x : ℕ) (to : Spot) (q : AreQueues input spots waiting) (there : x < length spots) (far : to.disk.0 ≢ target input x) where
@@ -107,18 +90,4 @@ module _ (input : InputLists) (spots : List Spot) (waiting : List (List ItemId))
   away_now h = far (ap (λ (s : Spot). s.disk.0) (sym (get_or-set_same spots x to no_spot there)) ∙ h)
 
   pub AreQueues-parked : (IsOnNext input spots x → ⊥) → AreQueues input (set spots x to) waiting
-  AreQueues-parked away = record {
-    len = q.len;
-    all_wait = λ u h k d l.
-        let w = q.all_wait u h k d l in
-        let y = get_or (queue_at waiting u) k d in
-        elim (cases_eq y.0 x) [
-          | inl at ↦ record { there = w.there; goes = w.goes; away = λ on_next. away_now (subst (λ (i : ℕ). IsOnNext input (set spots x to) i) at on_next) }
-          | inr off ↦ waits_other input spots x to u y off w
-        ];
-    apart = q.apart;
-    everyone = λ item h off. elim (cases_eq item x) [
-      | inl at ↦ q.everyone item h (λ on_next. away (subst (λ (i : ℕ). IsOnNext input spots i) at on_next))
-      | inr ne ↦ q.everyone item h (λ on_next. off (ap (λ (s : Spot). s.disk.0) (spot_other spots x to item ne) ∙ on_next))
-    ];
-  }
+  AreQueues-parked away = grind (arith, cases_eq, away_now, waits_other, spot_other)

@@ -1,9 +1,10 @@
 -- Which inputs have a plan that runs.
-use Rattle.mig_tight.proofs.Common.{All, All-cons, All-contains, AllPairs-cons, AreDifferent, At, At-some, Contains, DiskId, Fits, HasFreeSlot, HasMove, InputLists, IsFree, IsInput, IsSpotOf, List}
-use Rattle.mig_tight.proofs.Common.{Option, Runs, Shift, Some, Spot, ap, arith, cases_lt, count_same, eq-eqb, eqb, false≢true, get_or, get_or-map, get_or-range_with_len, get_or_default, in_some}
-use Rattle.mig_tight.proofs.Common.{inl, inr, is_at, layout_at, length, length-map, length-range_with_len, map, moved_cases, no_spot, not, one, option_map, present, range_with_len, refl}
-use Rattle.mig_tight.proofs.Common.{round_at, same_disk, slice_get, slice_get-get_or, slice_get_within, slots_of, source, spot, spot_disk, subst, suc, sum_by-cons, sym, target, unwrap_or, zero}
-use Rattle.mig_tight.proofs.Common.{ℕ, ⊎_elim, ◌<◌, ◌∙◌, ◌∷◌, ◌≡◌, ◌≢◌, ◌≤◌}
+use Rattle.mig_tight.proofs.Common.{All, All-cons, All-contains, AllPairs-cons, AreDifferent, At, At-some, Contains, DiskId, Fits, HasFreeSlot}
+use Rattle.mig_tight.proofs.Common.{HasMove, InputLists, IsFree, IsInput, IsSpotOf, List, Option, Runs, Shift, Some, Spot, ap, arith, cases_lt}
+use Rattle.mig_tight.proofs.Common.{count_same, eq-eqb, eqb, false≢true, get_or, get_or-map, get_or-range_with_len, get_or_default, in_some, inl, inr}
+use Rattle.mig_tight.proofs.Common.{is_at, layout_at, length, length-map, length-range_with_len, map, moved_cases, no_spot, not, one, present}
+use Rattle.mig_tight.proofs.Common.{range_with_len, refl, round_at, slice_get-get_or, slice_get_within, slots_of, source, spot, spot_disk, subst, suc}
+use Rattle.mig_tight.proofs.Common.{sum_by-cons, sym, target, unwrap_or, zero, ℕ, ⊎_elim, ◌<◌, ◌∙◌, ◌∷◌, ◌≡◌, ◌≢◌, ◌≤◌}
 use Rattle.mig_base.proofs.SlotCounts.{pigeons_above, spot_slot}
 
 -- more spots than the present ones are on a disk where one more is free
@@ -32,24 +33,13 @@ module _ (input : InputLists) (is : IsInput input) (plan : List (List Shift)) (r
       (λ none. slots_at k (omega (arith, le)) item spot (sym none.1 ∙ at))
       (moved_cases (At input plan k) (round_at plan (suc k)) item)
 
-  -- the last layout as a list
-  last_spot : ℕ → Spot
-  last_spot item = unwrap_or (At input plan (length plan) item) no_spot
-
   ends_there : (item : ℕ) → item < length input.items → At input plan (length plan) item ≡ Some (unwrap_or (At input plan (length plan) item) no_spot)
   ends_there item l =
       let some = At-some input plan (length plan) item (omega (arith, l, is.spots_len)) in
       some.1 ∙ ap (λ (o : Option Spot). Some (unwrap_or o no_spot)) (sym some.1)
 
   ends_home : (item : ℕ) → item < length input.items → (unwrap_or (At input plan (length plan) item) no_spot).disk.0 ≡ target input item
-  ends_home item l =
-      let a = runs.arrives item l in
-      let e : Some (unwrap_or (At input plan (length plan) item) no_spot).disk ≡ slice_get input.next item = ap (λ (o : Option Spot). option_map (λ (s : Spot). s.disk) o) (sym (ends_there item l)) ∙ a in
-      let f : slice_get input.next item ≡ Some (get_or input.next item (record { 0 = 0 })) = slice_get-get_or input.next item (record { 0 = 0 }) (omega (arith, l, is.next_len)) in
-      same_disk (unwrap_or (At input plan (length plan) item) no_spot).disk (get_or input.next item (record { 0 = 0 })) (e ∙ f)
-    where
-      same_disk : (a b : DiskId) → Some a ≡ Some b → a.0 ≡ b.0
-      same_disk a b e = cc
+  ends_home item l = grind (arith, no_spot, ends_there, slice_get-get_or)
 
   abbrev final : List Spot
   final = map (λ item. unwrap_or (At input plan (length plan) item) no_spot) (range_with_len 0 (length input.items))

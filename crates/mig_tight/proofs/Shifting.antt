@@ -1,9 +1,11 @@
 -- One shift more: an item goes to a spare, and leaves a spare where it was.
-use Rattle.mig_tight.proofs.Common.{All, All-cons, All-contains, All-nil, All-push, All-set, ArePlaced, At, At-append, At-push, Contains, Contains-get_or, HasSpares, Incoming, IsFree, IsInRange}
-use Rattle.mig_tight.proofs.Common.{InputLists, IsInput, IsLegal, IsListOf-shift, IsSpotOf, IsTaken, Joint, KeepsLimit, Layout, Limits, List, Outgoing, RoundsLead, Shift, ShiftFits, Some, Split, Spot}
-use Rattle.mig_tight.proofs.Common.{Transfer, [], after_shifts, ap, arith, cases_eq, cases_lt, count_by-le-length, disk_at, eqb, get_or, get_or-set_other, get_or-set_same, get_or_default}
-use Rattle.mig_tight.proofs.Common.{get_or_push, incoming, inl, inr, is_at, layout_of, length, length-set, length_push, no_disk, no_spot, one, passes, refl, round_at, round_at-append, set}
-use Rattle.mig_tight.proofs.Common.{slice_get-get_or, slice_get_within, spot, spot_at, spot_disk, subst, suc, sum_by-set, sym, touches, transfer_of, ℕ, ◌++◌, ◌<◌, ◌∙◌, ◌∷◌, ◌≡◌, ◌≢◌, ◌≤◌}
+use Rattle.mig_tight.proofs.Common.{All, All-cons, All-contains, All-nil, All-push, All-set, ArePlaced, At, At-append, At-push, Contains}
+use Rattle.mig_tight.proofs.Common.{Contains-get_or, HasSpares, Incoming, InputLists, IsInRange, IsInput, IsLegal, IsListOf-shift, IsSpotOf, IsTaken}
+use Rattle.mig_tight.proofs.Common.{Joint, KeepsLimit, Layout, Limits, List, Outgoing, RoundsLead, Shift, ShiftFits, Split, Spot, Transfer, []}
+use Rattle.mig_tight.proofs.Common.{after_shifts, ap, arith, cases_eq, cases_lt, count_by-le-length, disk_at, get_or, get_or-set_other}
+use Rattle.mig_tight.proofs.Common.{get_or-set_same, get_or_default, get_or_push, incoming, inl, inr, is_at, layout_of, length, length-set}
+use Rattle.mig_tight.proofs.Common.{length_push, no_disk, no_spot, passes, refl, round_at, round_at-append, set, slice_get-get_or, slice_get_within}
+use Rattle.mig_tight.proofs.Common.{spot, spot_at, spot_disk, subst, suc, sum_by-set, sym, touches, transfer_of, ℕ, ◌++◌, ◌<◌, ◌∙◌, ◌∷◌, ◌≡◌, ◌≤◌}
 use Rattle.mig_base.proofs.SlotCounts.{spot_slot}
 use Rattle.mig_tight.proofs.ListLaws.{pairs_one, place_of, set_apart, contains_set}
 
@@ -16,9 +18,7 @@ At_same : (input : InputLists) (rounds more : List (List Shift)) (k : ℕ) → k
 At_same input rounds more k le = λ i item. At-append input rounds more k item le i
 
 slot_small : (input : InputLists) (spot : Spot) → IsInput input → IsSpotOf input.disks spot → spot.slot < 65536
-slot_small input spot is of =
-    let r = is.disk_ranges spot.disk.0 no_disk (spot_disk input.disks spot of) in
-    omega (arith, spot_slot input.disks spot of, r.2)
+slot_small input spot is of = grind (arith, no_disk, spot_disk, spot_slot)
 
 -- a transfer alone keeps all limits
 keeps_one : (limits : Limits) (v : ℕ) (t : Transfer) → IsInRange limits → KeepsLimit limits v (t ∷ [])
@@ -43,26 +43,10 @@ module _ (input : InputLists) (is : IsInput input) (spots spares : List Spot) (i
   not_taken (i, e) = to_fresh (i, slice_get_within spots i (spot_at spares h) e, is_at spots i (spot_at spares h) (spot_at spares h) (slice_get_within spots i (spot_at spares h) e) e)
 
   legal_one : IsLegal input (layout_of spots) (shift_to spots spares item h ∷ [])
-  legal_one =
-      let s = shift_to spots spares item h in
-      record {
-        some = omega arith;
-        leaves = All-cons (λ (t : Shift). layout_of spots t.item.0 ≡ Some t.from) s [] (slice_get-get_or spots item no_spot within) (All-nil (λ (t : Shift). layout_of spots t.item.0 ≡ Some t.from));
-        once = pairs_one (λ (t u : Shift). t.item ≢ u.item) s;
-        free = All-cons (λ (t : Shift). IsFree input (layout_of spots) t.to) s [] (placed.spares_there h no_spot spare, not_taken) (All-nil (λ (t : Shift). IsFree input (layout_of spots) t.to));
-        apart = pairs_one (λ (t u : Shift). t.to ≢ u.to) s;
-        limits = λ v l. keeps_one (disk_at input.disks v).limits v (transfer_of s) (is.disk_ranges v no_disk l).0;
-      }
+  legal_one = grind (arith, All-cons, slice_get-get_or, no_spot, within, All-nil, pairs_one, not_taken, keeps_one, disk_at, transfer_of, no_disk)
 
   fits_one : All (ShiftFits input) (shift_to spots spares item h ∷ [])
-  fits_one = All-cons (ShiftFits input) (shift_to spots spares item h) []
-      (record {
-        item = there;
-        from_disk = spot_disk input.disks (spot_at spots item) (placed.spots_there item no_spot within);
-        to_disk = spot_disk input.disks (spot_at spares h) (placed.spares_there h no_spot spare);
-        from_slot = slot_small input (spot_at spots item) is (placed.spots_there item no_spot within);
-        to_slot = slot_small input (spot_at spares h) is (placed.spares_there h no_spot spare);
-      }) (All-nil (ShiftFits input))
+  fits_one = grind (arith, All-cons, spot_disk, no_spot, within, slot_small, All-nil)
 
   next_layout : after_shifts (layout_of spots) (shift_to spots spares item h ∷ []) ≡ layout_of (set spots item (spot_at spares h))
   next_layout = λ i k. sym (IsListOf-shift (layout_of spots) spots (shift_to spots spares item h) within (λ n. refl) k) i
@@ -115,6 +99,4 @@ module _ (input : InputLists) (is : IsInput input) (spots spares : List Spot) (i
   }
 
   pub enough_more : HasSpares input spots spares → HasSpares input (set spots item (spot_at spares h)) (set spares h (spot_at spots item))
-  enough_more f v l =
-      let on : Spot → ℕ = λ s. one (eqb s.disk.0 v) in
-      omega (arith, f v l, sum_by-set on spots item (spot_at spares h) no_spot within, sum_by-set on spares h (spot_at spots item) no_spot spare)
+  enough_more f v l = grind (arith, sum_by-set, no_spot, within)

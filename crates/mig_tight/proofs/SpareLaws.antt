@@ -1,35 +1,20 @@
 -- The free slots of the disks, slot by slot.
-use Rattle.mig_tight.proofs.Common.{All, All-append, All-map, All-nil, All-push, All-weaker, AreCounts, AreDifferent, AreEnds, ArePlaced, Contains, Contains-append_left, Contains-append_right}
-use Rattle.mig_tight.proofs.Common.{Contains-push, DiskId, HasFreeSlot, HasSpares, InputLists, IsBefore, IsInput, List, SparesBefore, Spot, [], ap, arith, cases_eq, count_by-le-length, eqb, occurrences}
-use Rattle.mig_tight.proofs.Common.{first_slots, get_or, get_or-take, inl, inr, length, length-append, length-map, length-take, map, no_spot, one, pigeons, refl, spot, spot_at, spot_by}
-use Rattle.mig_tight.proofs.Common.{spot_disk, subst, sum_by-append, sum_by-map, sym, take, ℕ, ⊎_elim, ◌++◌, ◌+◌, ◌<◌, ◌∙◌, ◌∷◌, ◌≡◌, ◌⊎◌}
+use Rattle.mig_tight.proofs.Common.{All, All-append, All-map, All-push, All-weaker, AreCounts, AreDifferent, AreEnds, ArePlaced, Contains}
+use Rattle.mig_tight.proofs.Common.{Contains-append_left, Contains-append_right, Contains-push, DiskId, HasSpares, InputLists, IsBefore, IsInput}
+use Rattle.mig_tight.proofs.Common.{List, SparesBefore, Spot, [], ap, arith, cases_eq, count_by-le-length, eqb, first_slots, get_or, get_or-take, inl}
+use Rattle.mig_tight.proofs.Common.{inr, length, length-append, length-map, length-take, map, occurrences, one, pigeons, refl, spot, spot_by}
+use Rattle.mig_tight.proofs.Common.{spot_disk, subst, sum_by-append, sum_by-map, sym, take, ℕ, ⊎_elim, ◌++◌, ◌+◌, ◌<◌, ◌∷◌, ◌≡◌, ◌⊎◌}
 use Rattle.mig_base.proofs.SlotCounts.{spot_is_of}
-use Rattle.mig_tight.proofs.RunningPlans.{present_below}
 use Rattle.mig_tight.proofs.FirstQueues.{apart_push}
 
 pub ends_are : (input : InputLists) (n : ℕ) (stops : List DiskId) (counts : List ℕ) → IsInput input → n ≡ length input.disks → stops ≡ map (λ (s : Spot). s.disk) input.spots ++ input.next → AreCounts n stops counts → AreEnds input counts
-ends_are input n stops counts is disks list a =
-    let on : List DiskId = map (λ (s : Spot). s.disk) input.spots in
-    record {
-      len = a.len ∙ disks;
-      count = λ v h. omega (arith, a.counted v (omega (arith, h, disks)), ap (λ (xs : List DiskId). occurrences v xs) list, sum_by-append (λ (d : DiskId). one (eqb d.0 v)) on input.next, sum_by-map (λ (d : DiskId). one (eqb d.0 v)) (λ (s : Spot). s.disk) input.spots);
-      few = λ v h. omega (arith, a.counted v (omega (arith, h, disks)), count_by-le-length (λ (d : DiskId). eqb d.0 v) stops, ap (λ (xs : List DiskId). length xs) list, length-append on input.next, length-map input.spots (λ (s : Spot). s.disk), is.spots_len, is.next_len, is.few_items);
-    }
+ends_are input n stops counts is disks list a = grind (arith, occurrences, sum_by-append, sum_by-map, count_by-le-length, length-append, length-map)
 
 -- each disk of the list is there
 pub stops_there : (input : InputLists) (n : ℕ) (stops : List DiskId) → IsInput input → n ≡ length input.disks → stops ≡ map (λ (s : Spot). s.disk) input.spots ++ input.next → All (λ (d : DiskId). d.0 < n) stops
 stops_there input n stops is disks list = subst (λ (xs : List DiskId). All (λ (d : DiskId). d.0 < n) xs) (sym list) (All-append (λ (d : DiskId). d.0 < n) (map (λ (s : Spot). s.disk) input.spots) input.next
     (All-map (λ (d : DiskId). d.0 < n) (λ (s : Spot). s.disk) input.spots (λ k d h. omega (arith, spot_disk input.disks (get_or input.spots k d) (is.on_disks k d h), disks)))
     (λ k d h. omega (arith, is.next_disks k d h, disks)))
-
-pub spares_start : (input : InputLists) → SparesBefore input 0 0 []
-spares_start input = record {
-  there = All-nil (λ (spare : Spot). (spare.disk.0 < length input.disks) × (spare.slot < first_slots input spare.disk.0));
-  free = All-nil (λ (spare : Spot). Contains input.spots spare → ⊥);
-  early = All-nil (λ (spare : Spot). IsBefore 0 0 spare.disk.0 spare.slot);
-  apart = λ i j d l m. absurd (omega (arith, m));
-  full = λ v s l m e. ⊎_elim (λ lt. absurd (omega (arith, lt))) (λ p. let lt = p.1 in absurd (omega (arith, lt))) e;
-}
 
 later : (d n v s : ℕ) → IsBefore d n v s → IsBefore d (n + 1) v s
 later d n v s (inl lt) = inl lt
@@ -42,10 +27,7 @@ not_before d n (inr p) = let lt = p.1 in absurd (omega (arith, lt))
 -- a slot before the next one is that one or comes before it
 split : (d n v s : ℕ) → IsBefore d (n + 1) v s → IsBefore d n v s ⊎ ((v ≡ d) × (s ≡ n))
 split d n v s (inl lt) = inl (inl lt)
-split d n v s (inr p) = let lt = p.1 in elim (cases_eq s n) [
-  | inl at ↦ inr (p.0, at)
-  | inr off ↦ inl (inr (p.0, omega (arith, lt, off)))
-]
+split d n v s (inr p) = grind (arith, cases_eq)
 
 module _ (input : InputLists) (d n : ℕ) (spares : List Spot) (there : d < length input.disks) (here : n < first_slots input d) (b : SparesBefore input d n spares) where
   pub spares_taken : Contains input.spots (spot d n) → SparesBefore input d (n + 1) spares
@@ -90,14 +72,7 @@ spares_row input d n spares all b = record {
 
 module _ (input : InputLists) (is : IsInput input) (d : ℕ) (spares : List Spot) (all : d ≡ length input.disks) (b : SparesBefore input d 0 spares) where
   pub spares_placed : ArePlaced input input.spots spares
-  spares_placed = record {
-    len = is.spots_len;
-    spots_there = is.on_disks;
-    spots_apart = is.spots_apart;
-    spares_there = λ k e l. let h = b.there k e l in spot_is_of input.disks (get_or spares k e) h.0 (let lt = h.1 in omega (arith, lt));
-    spares_apart = b.apart;
-    spares_free = b.free;
-  }
+  spares_placed = grind (arith, spot_is_of, spares_free)
 
   pub spares_enough : HasSpares input input.spots spares
   spares_enough v l =
@@ -111,21 +86,6 @@ module _ (input : InputLists) (is : IsInput input) (d : ℕ) (spares : List Spot
             (b.full v s l m (inl (omega (arith, l, all))))),
       )
 
--- there is a spare exactly where a slot is free
-module _ (input : InputLists) (is : IsInput input) (spares : List Spot) (placed : ArePlaced input input.spots spares) (enough : HasSpares input input.spots spares) where
-  pub free_from_spare : 0 < length spares → HasFreeSlot input
-  free_from_spare some =
-      let spare = spot_at spares 0 in
-      let there = placed.spares_there 0 no_spot some in
-      (spare.disk.0, spot_disk input.disks spare there, present_below input spare is there (placed.spares_free 0 no_spot some))
-
-  pub spare_from_free : length spares ≡ 0 → HasFreeSlot input → ⊥
-  spare_from_free none free =
-      let v = free.0 in
-      absurd (omega (arith, enough v free.1, free.2, none, count_by-le-length (λ (s : Spot). eqb s.disk.0 v) spares))
-
 -- a spot isn't among those before it
 pub not_before_it : (spots : List Spot) (i : ℕ) (spot : Spot) → AreDifferent spots → i < length spots → spot ≡ get_or spots i spot → Contains (take i spots) spot → ⊥
-not_before_it spots i spot different lt here has =
-    let low : has.0 < i = omega (arith, has.1, length-take i spots) in
-    different has.0 i spot low lt (sym (get_or-take i spots has.0 spot low) ∙ has.2 ∙ here)
+not_before_it spots i spot different lt here has = grind (arith, length-take, get_or-take)

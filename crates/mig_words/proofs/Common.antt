@@ -7,8 +7,8 @@ pub use Rattle.mig_words.specs.Outcomes.{blame_pieces, cause_text, joined}
 pub use Rattle.mig_words.specs.Puts.{Puts, part_text}
 pub use Rattle.mig_words.specs.Words.{Form, IsFileWord, IsListed, texts}
 pub use Rattle.mig_words.specs.declared.putting.TextPart.TheVariants.{Text}
-pub use Rattle.std.proofs.Common.{Err, List, MatchOption, None, Ok, Option, Result, Some, [], add-one, ap, append_assoc, arith, codes, drop, false, get_or, length, map, refl, rules, subst, suc}
-pub use Rattle.std.proofs.Common.{sym, take, true, ℕ, ◌++◌, ◌+◌, ◌<◌, ◌∙◌, ◌∷◌, ◌≡◌, ◌≢◌}
+pub use Rattle.std.proofs.Common.{Err, List, MatchOption, None, Ok, Option, Result, Some, [], ap, append_assoc, arith, codes, drop, false, get_or}
+pub use Rattle.std.proofs.Common.{length, map, refl, rules, subst, suc, sym, take, true, ℕ, ◌++◌, ◌+◌, ◌<◌, ◌∙◌, ◌∷◌, ◌≡◌, ◌≢◌}
 pub use Rattle.std.proofs.Math.Seq.{drop-cons, take-append-add, take-length}
 pub use Rattle.std.proofs.lemmas.Grind.{flat_map-append}
 pub use Rattle.std.proofs.lemmas.List.{append-nil, length-append, map-append, take-append-drop, take-append-le}

@@ -1,6 +1,7 @@
 -- Facts about lists.
-use Rattle.mig_words.proofs.Common.{AllByRecursion, Global, List, String, [], add-one, ap, arith, drop, drop-cons, get_or, length, map, refl, string_bytes, suc, texts}
-use Rattle.mig_words.proofs.Common.{ℕ, ◌+◌, ◌<◌, ◌∙◌, ◌∷◌, ◌≡◌}
+use Rattle.mig_words.proofs.Common.{AllByRecursion, Global, List, String, [], ap, arith, drop, get_or, length, map, refl, string_bytes, suc, texts, ℕ}
+use Rattle.mig_words.proofs.Common.{◌+◌, ◌<◌, ◌∷◌, ◌≡◌}
+use Rattle.std.proofs.lemmas.List.{drop_more}
 
 -- the words are spelled so, from this place of the texts on
 abbrev pub SpelledAt : List (String Global) → ℕ → List (List ℕ) → Type 0
@@ -25,8 +26,5 @@ pub record SoFar {X : Type 0} (P : X → Type 0) (rest all : List X) : Type 0 wh
 pub SoFar-step : {X : Type 0} (P : X → Type 0) (x : X) (rest all : List X) → SoFar P (x ∷ rest) all → P x → SoFar P rest all
 SoFar-step P x rest all s here = record { then = λ h. s.then (here, h); back = λ h. (s.back h).1 }
 
-drop_one : {X : Type 0} (xs : List X) (i : ℕ) (d : X) → i < length xs → drop i xs ≡ get_or xs i d ∷ drop (i + 1) xs
-drop_one xs i d h = rw (add-one, drop-cons xs i d) refl
-
 pub map-drop : {X Y : Type 0} (f : X → Y) (xs : List X) (i : ℕ) (d : X) → i < length xs → map f (drop i xs) ≡ f (get_or xs i d) ∷ map f (drop (i + 1) xs)
-map-drop f xs i d h = ap (map f) (drop_one xs i d h)
+map-drop f xs i d h = ap (map f) (drop_more xs i d h)

@@ -1,4 +1,4 @@
-use Rattle.mig_check.proofs.Common.{false, is_duplex, sym, true, ◌∙◌, ◌≡◌}
+use Rattle.mig_check.proofs.Common.{false, sym, true, ◌∙◌}
 use Rattle.mig_check.proofs.PartLimits.{found_by_both, found_by_sides}
 use Rattle.mig_check.proofs.ends.check_limits.Goals as goal
 

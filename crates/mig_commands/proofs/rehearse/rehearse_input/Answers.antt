@@ -1,5 +1,6 @@
-use Rattle.mig_commands.proofs.Common.{AllocError, Cert, Err, Global, IfOk, InputLists, IsCertified, IsPlanDigest, IsRehearsed, List, Ok, RehearsalNumbers, Result, Shift, Transfers, Vec, ap, bound_value}
-use Rattle.mig_commands.proofs.Common.{eight_lines, length, length-map, moves, quotient, string_bytes, text_of_lines, transfer_graph, transfer, verdict_word, ℕ, ◌∙◌, ◌≡◌}
+use Rattle.mig_commands.proofs.Common.{AllocError, Cert, Err, Global, IfOk, InputLists, IsCertified, IsPlanDigest, IsRehearsed, List, Ok}
+use Rattle.mig_commands.proofs.Common.{RehearsalNumbers, Result, Shift, Transfers, Vec, ap, bound_value, eight_lines, length, length-map, moves}
+use Rattle.mig_commands.proofs.Common.{quotient, string_bytes, text_of_lines, transfer, transfer_graph, verdict_word, ℕ, ◌∙◌, ◌≡◌}
 use Rattle.mig_commands.proofs.rehearse.rehearse_input.Goals as goal
 
 -- the lines are those of the input and of its certified plan

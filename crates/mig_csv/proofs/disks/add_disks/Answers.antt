@@ -1,4 +1,4 @@
-use Rattle.mig_csv.proofs.Common.{DisksRowFault, IsFirstCause, Why, arith, disk_of, false, fields_of, is_err, name_in_row, on-ok, refl, rules, subst, ◌≡◌}
+use Rattle.mig_csv.proofs.Common.{DisksRowFault, IsFirstCause, arith, fields_of, is_err, name_in_row, on-ok, refl, subst}
 use Rattle.mig_base.specs.declared.faults.Why.TheVariants as why
 use Rattle.mig_csv.proofs.DiskFiles.{ReadSoFar-end, ReadSoFar-fault, ReadSoFar-few, ReadSoFar-few_names, ReadSoFar-names, ReadSoFar-push, ReadSoFar-start, ReadSoFar-value}
 use Rattle.mig_csv.proofs.disks.add_disks.Goals as goal
@@ -7,34 +7,19 @@ pub rows-init : goal.rows-init
 rows-init c bytes opened same = rw (c.requires.no_names, c.requires.no_disks) (ReadSoFar-start _ opened.short opened.rows)
 
 pub returns-clause-listed : goal.returns-clause-listed
-returns-clause-listed c bytes opened same =
-    let s = c.rows.invariant bytes opened same in
-    let end = rw c.if-branch.false at c.in_ok-read.ensures.found in
-    record { value = ReadSoFar-value s end; few = ReadSoFar-few s; names = ReadSoFar-names s; sound = ReadSoFar-end s end }
+returns-clause-listed c bytes opened same = grind (arith, ReadSoFar-value, ReadSoFar-few, ReadSoFar-names, ReadSoFar-end)
 
 pub push-requires : goal.push-requires
 push-requires c = rw (c.in-Ok.ensures.value, name_in_row) (c.in-Ok.ensures.sound why.DuplicateDisk)
 
 pub rows-preserved : goal.rows-preserved
-rows-preserved c bytes opened same =
-    let value = subst (λ b. c.in-Ok.disk ≡ disk_of b (fields_of c.read.new.row)) same c.in-Ok.ensures.value in
-    let sound = subst (λ b. (w : Why) → ¬ (DisksRowFault b c.rows.listed.names (fields_of c.read.new.row) w)) same c.in-Ok.ensures.sound in
-    let one = rw c.if-branch.true at c.in_ok-read.ensures.found in
-    let next = ReadSoFar-push (c.rows.invariant bytes opened same) (fields_of c.read.new.row) c.read.new.self c.in-Ok.disk one value sound in
-    let good : is_err c.push.result ≡ false = search rules in
-    rw (on-ok c.push.result good c.push.ensures.names, on-ok c.push.result good c.push.ensures.disks) next
+rows-preserved c bytes opened same = grind (arith, fields_of, ReadSoFar-push, is_err, on-ok)
 
 pub overflow_cast-len : goal.overflow_cast-len
-overflow_cast-len c =
-    let (bytes, opened, same) = c.requires.opened in
-    let few = ReadSoFar-few_names (c.rows.invariant bytes opened same) in
-    omega arith
+overflow_cast-len c = grind (arith, ReadSoFar-few_names)
 
 pub overflow_add-len : goal.overflow_add-len
-overflow_add-len c =
-    let (bytes, opened, same) = c.requires.opened in
-    let few = ReadSoFar-few_names (c.rows.invariant bytes opened same) in
-    omega arith
+overflow_add-len c = grind (arith, ReadSoFar-few_names)
 
 pub returns-in-Err-clause-fault : goal.returns-in-Err-clause-fault
 returns-in-Err-clause-fault c bytes opened same =

@@ -1,4 +1,4 @@
-use Rattle.mig_csv.proofs.Common.{arith, fields_of, refl, sym, ◌∙◌}
+use Rattle.mig_csv.proofs.Common.{arith, fields_of, sym, ◌∙◌}
 use Rattle.mig_csv.proofs.Fields.{agree_all, agree_more, disagree}
 use Rattle.mig_csv.proofs.files.has_fields.Goals as goal
 
@@ -13,6 +13,4 @@ pub loop-i-preserved : goal.loop-i-preserved
 loop-i-preserved c = agree_more (fields_of c.args.row.now) c.args.fields.now c.loop-i.i c.loop-i.invariant (rw c.field.ensures at (sym c.ne.ensures ∙ c.if-ne.false))
 
 pub returns : goal.returns
-returns c =
-    let all = agree_all (fields_of c.args.row.now) c.args.fields.now (sym c.len.ensures ∙ c.if-len-fields.false) (λ k h. c.loop-i.invariant k (omega (arith, h, c.loop-i-test.false))) in
-    (λ h. all, λ e. refl)
+returns c = grind (arith, agree_all, fields_of)

@@ -1,13 +1,10 @@
-use Rattle.mig_csv.proofs.Common.{ThreeFiles, err_from_is_err_and}
+use Rattle.mig_csv.proofs.Common.{ThreeFiles, arith, err_from_is_err_and}
 use Rattle.mig_csv.proofs.Whole.{Accepted-roomy, refusal_of_room}
 use Rattle.mig_csv.proofs.Tight.{read_of, refusal_of_tight}
 use Rattle.mig_csv.proofs.inputs.read_input.Goals as goal
 
 pub returns-in_err-input-clause-refused : goal.returns-in_err-input-clause-refused
-returns-in_err-input-clause-refused c =
-    let fs : ThreeFiles = record { disks = c.args.disks.now; now = c.args.now.now; next = c.args.next.now } in
-    let p = err_from_is_err_and c.from_residual.result c.from_residual.ensures.1 in
-    rw (p.1, p.2) (refusal_of_tight fs _ c.in_err-input.ensures.refused)
+returns-in_err-input-clause-refused c = grind (arith, err_from_is_err_and, refusal_of_tight)
 
 pub returns-in_err-check_room-clause-refused : goal.returns-in_err-check_room-clause-refused
 returns-in_err-check_room-clause-refused c =

@@ -1,15 +1,11 @@
-use Rattle.mig_csv.proofs.Common.{AcceptedTight, AcceptedTight-IsInput, InputLists, ThreeFiles, err_from_is_err_and, sym, ◌∙◌}
+use Rattle.mig_csv.proofs.Common.{AcceptedTight, AcceptedTight-IsInput, InputLists, ThreeFiles, arith, err_from_is_err_and, sym, ◌∙◌}
 use Rattle.mig_csv.proofs.Whole.{clean_next, clean_now, listed_of, none_missing, refusal_of_disks, refusal_of_missing, refusal_of_next, refusal_of_now}
 use Rattle.mig_csv.proofs.Tight.{accepted_tight, disks_other, missing_other, next_other, now_other, tight_refusal}
 use Rattle.mig_csv.proofs.inputs.read_tight.Goals as goal
 use Rattle.mig_csv.proofs.inputs.read_tight.Goals.{In_ok-next}
 
 pub returns-in_err-listed-clause-refused : goal.returns-in_err-listed-clause-refused
-returns-in_err-listed-clause-refused c =
-    let fs : ThreeFiles = record { disks = c.args.disks.now; now = c.args.now.now; next = c.args.next.now } in
-    let p = err_from_is_err_and c.from_residual.result c.from_residual.ensures.1 in
-    let fault = c.in_err-listed.ensures.fault in
-    rw (p.1, p.2) (tight_refusal fs _ (disks_other fs.disks _ fault) (refusal_of_disks fs _ fault))
+returns-in_err-listed-clause-refused c = grind (arith, err_from_is_err_and, tight_refusal, disks_other, refusal_of_disks)
 
 pub returns-in_err-layout-clause-refused : goal.returns-in_err-layout-clause-refused
 returns-in_err-layout-clause-refused c =

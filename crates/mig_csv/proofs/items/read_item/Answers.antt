@@ -1,24 +1,14 @@
-use Rattle.mig_csv.proofs.Common.{Contains, Disk, Spot, ap, arith, fields_of, first, get_or_from_slice_get, map, number_of, place_in, refl, second, slice_get_within, subst, sym, third, ◌<◌, ◌∙◌}
-use Rattle.mig_csv.proofs.Common.{◌≡◌, ◌≤◌}
+use Rattle.mig_csv.proofs.Common.{Contains, Disk, Spot, ap, arith, fields_of, first, get_or_from_slice_get, map, number_of, place_in, refl, second}
+use Rattle.mig_csv.proofs.Common.{slice_get_within, subst, sym, third, ◌<◌, ◌∙◌, ◌≡◌}
 use Rattle.mig_csv.proofs.DiskRows.{not_found}
 use Rattle.mig_csv.proofs.ItemRows.{found_disk, no_disk, none_before, not_too_high, place_taken, rank_small, spot_taken, too_high}
 use Rattle.mig_csv.proofs.items.read_item.Goals as goal
 
 pub index-requires : goal.index-requires
-index-requires c =
-    let disks = c.args.disks.now.disks.items in
-    let f = found_disk disks c.args.disks.now.names c.in-Some-find.place c.in-Some-read.disk c.requires.named c.in-Some-find.ensures.found in
-    let lt = slice_get_within disks c.in-Some-find.place f.0 f.1 in
-    let len = c.args.disks.now.disks.ok.0 in
-    omega arith
+index-requires c = grind (arith, found_disk, slice_get_within)
 
 pub overflow_cast-spot : goal.overflow_cast-spot
-overflow_cast-spot c =
-    let disks = c.args.disks.now.disks.items in
-    let f = found_disk disks c.args.disks.now.names c.in-Some-find.place c.in-Some-read.disk c.requires.named c.in-Some-find.ensures.found in
-    let lt = slice_get_within disks c.in-Some-find.place f.0 f.1 in
-    let few = c.requires.few in
-    omega arith
+overflow_cast-spot c = grind (arith, found_disk, slice_get_within)
 
 pub returns-in_default-find-clause-cause : goal.returns-in_default-find-clause-cause
 returns-in_default-find-clause-cause c =
@@ -43,29 +33,7 @@ returns-in_default-find-clause-cause c =
 
 pub returns-then-slot-from-clause-cause : goal.returns-then-slot-from-clause-cause
 returns-then-slot-from-clause-cause c =
-    let disks = c.args.disks.now.disks.items in
-    let r = fields_of c.args.row.now in
-    let name = c.in-Some.ensures in
-    let named = c.in-Some-read.ensures in
-    let slot = c.in-Some-read_digits.ensures in
-    let new : ¬ (Contains c.args.items.now (first r)) = rw (← c.field.ensures, ← name.value) (not_found c.args.items.now c.in-Some.name c.find.result c.find.ensures.found (sym c.is_some.ensures ∙ c.if-is_some.false)) in
-    let f = found_disk disks c.args.disks.now.names c.in-Some-find.place c.in-Some-read.disk c.requires.named c.in-Some-find.ensures.found in
-    let second_is : second r ≡ f.0.name = sym c.field-2.ensures ∙ sym named.value ∙ f.2 in
-    let slot_is : number_of (third r) ≡ c.in-Some-read_digits.slot = sym (slot.value ∙ ap number_of c.field-3.ensures) in
-    let ne = rw c.requires.named at c.in-Some-find.ensures.different in
-    let index_is : c.index.result.now ≡ f.0 = c.index.ensures ∙ get_or_from_slice_get disks c.in-Some-find.place f.0 c.index.result.now f.1 in
-    record {
-      holds = rw (second_is, slot_is) (too_high disks c.in-Some-find.place c.in-Some-read_digits.slot f.0 f.1 (subst (λ (d : Disk). d.slots ≤ c.in-Some-read_digits.slot) index_is (rw c.from.ensures at c.if-slot-from.true)));
-      first = none_before disks c.args.items.now (map (place_in disks) c.args.taken.now) r 10
-          (λ _. omega arith)
-          (λ _. sym c.len-2.ensures ∙ c.if-len-ne3.false)
-          (λ _. (rw c.field.ensures at (name.valid.0 refl), rw c.field-2.ensures at (named.valid.0 refl)))
-          (λ _. rw c.field-3.ensures at (slot.valid.0 refl))
-          (λ _. new)
-          (λ _. rw second_is (c.in-Some-find.place, f.0, slice_get_within disks c.in-Some-find.place f.0 f.1, get_or_from_slice_get disks c.in-Some-find.place f.0 f.0 f.1, refl))
-          (λ lt. absurd (omega (arith, lt)))
-          (λ lt. absurd (omega (arith, lt)));
-    }
+    grind (arith, fields_of, not_found, found_disk, get_or_from_slice_get, too_high, none_before, slice_get_within)
 
 pub returns-then-contains-clause-cause : goal.returns-then-contains-clause-cause
 returns-then-contains-clause-cause c =

@@ -1,17 +1,12 @@
-use Rattle.mig_csv.proofs.Common.{InputLists, err_from_is_err_and, refl}
+use Rattle.mig_csv.proofs.Common.{InputLists, arith, err_from_is_err_and, refl}
 use Rattle.mig_csv.proofs.Listings.{listing_is_input, listing_of_disks, listing_of_now, sound}
 use Rattle.mig_csv.proofs.layouts.read_layout.Goals as goal
 
 pub returns-in_err-listed-clause-refused : goal.returns-in_err-listed-clause-refused
-returns-in_err-listed-clause-refused c =
-    let p = err_from_is_err_and c.from_residual.result c.from_residual.ensures.1 in
-    rw (p.1, p.2) (listing_of_disks c.args.disks.now c.args.now.now _ c.in_err-listed.ensures.fault)
+returns-in_err-listed-clause-refused c = grind (arith, err_from_is_err_and, listing_of_disks)
 
 pub returns-in_err-layout-clause-refused : goal.returns-in_err-layout-clause-refused
-returns-in_err-layout-clause-refused c =
-    let p = err_from_is_err_and c.from_residual-in_err-layout.result c.from_residual-in_err-layout.ensures.1 in
-    let d = c.in_ok-listed.ensures in
-    rw (p.1, p.2) (listing_of_now c.args.disks.now c.args.now.now _ d.value d.sound _ c.in_err-layout.ensures.fault)
+returns-in_err-layout-clause-refused c = grind (arith, err_from_is_err_and, listing_of_now, sound)
 
 pub input_of-requires : goal.input_of-requires
 input_of-requires c =

@@ -30,10 +30,7 @@ returns-in_default-fitting-clause-line c =
 
 pub returns-clause-line : goal.returns-clause-line
 returns-clause-line c =
-    let finder = c.args.finder.now in
-    let text = c.args.parts in
-    let orders = c.loop-piece.orders in
-    let counted : orders.len ≡ length orders.items = orders.ok.0 in
-    subst (IsStopAt finder text) (sym c.misfit-2.ensures)
-    (stops_missing finder text orders.items (subst (λ (l : List (List ℕ)). WereRead finder text orders.items l) c.in_default.ensures.0 c.loop-piece.invariant)
-    (c.len-2.result + 1) (omega (arith, counted, c.len-2.ensures)))
+    let read = subst (λ (l : List (List ℕ)). WereRead c.args.finder.now c.args.parts c.loop-piece.orders.items l) c.in_default.ensures.0
+    c.loop-piece.invariant in
+    subst (IsStopAt c.args.finder.now c.args.parts) (sym c.misfit-2.ensures)
+    (stops_missing _ _ _ read (c.len-2.result + 1) (omega (arith, c.loop-piece.orders.ok.0, c.len-2.ensures)))

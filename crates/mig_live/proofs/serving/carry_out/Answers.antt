@@ -1,6 +1,6 @@
 use Rattle.mig_live.proofs.ActionLaws.{made_quiet, none_up_to}
-use Rattle.mig_live.proofs.Common.{AreMade, ArePut, ArePutUpTo, IsSound, NoCell, Order, [], actions_left, arith, drop, look_quiet}
-use Rattle.mig_live.proofs.Common.{quiet_leaves, refl, steps_of, subst, sym, take, ◌∷◌, ◌≡◌}
+use Rattle.mig_live.proofs.Common.{AreMade, ArePut, ArePutUpTo, IsSound, NoCell, Order, [], actions_left, arith, drop, look_quiet, quiet_leaves, refl}
+use Rattle.mig_live.proofs.Common.{steps_of, subst, sym, take, ◌∷◌, ◌≡◌}
 use Rattle.mig_live.specs.Replies.{IsServeFault}
 use Rattle.mig_live.specs.Sessions.{InSightFor}
 use Rattle.mig_mover.proofs.SeenSlots.{rose_after}
@@ -21,17 +21,15 @@ pub returns-in-Ok-clause-made : goal.returns-in-Ok-clause-made
 returns-in-Ok-clause-made g c =
     let old = g.S.Store.state c.args.store.now in
     let new = g.S.Store.state c.reply.new.store in
-    subst (λ (o : Order). AreMade (take (steps_of o) (actions_left c.args.live)) old new) (sym c.in-Read.is) (made_quiet old new (look_quiet old new c.requires.none c.reply.ensures.change))
+    subst (λ (o : Order). AreMade (take (steps_of o) (actions_left c.args.live)) old new) (sym c.in-Read.is)
+    (made_quiet old new (look_quiet old new c.requires.none c.reply.ensures.change))
 
 pub returns-in-Err-clause-put : goal.returns-in-Err-clause-put
 returns-in-Err-clause-put g c =
     subst (λ (o : Order). ArePutUpTo c.args.live (g.S.Store.state c.args.store.now) [] o (g.K.Sink.state c.args.out.now) (g.K.Sink.state c.reply.new.out) c.in-Err.fault) (sym c.in-Read.is) c.in-Err.ensures.put
 
 pub returns-in-Err-clause-part : goal.returns-in-Err-clause-part
-returns-in-Err-clause-part g c =
-    let old = g.S.Store.state c.args.store.now in
-    let new = g.S.Store.state c.reply.new.store in
-    none_up_to (take (steps_of c.args.order) (actions_left c.args.live)) old new c.in-Err.fault (made_quiet old new (look_quiet old new c.requires.none c.reply.ensures.change))
+returns-in-Err-clause-part g c = none_up_to _ _ _ c.in-Err.fault (made_quiet _ _ (look_quiet _ _ c.requires.none c.reply.ensures.change))
 
 pub returns-in-Err-clause-any_moment : goal.returns-in-Err-clause-any_moment
 returns-in-Err-clause-any_moment g c = λ asked contents at. quiet_leaves (IsSound asked c.args.live.task.input c.args.live.task.plan c.args.live.task.digest contents) NoCell [] (g.S.Store.state c.args.store.now) (g.S.Store.state c.reply.new.store)

@@ -10,7 +10,7 @@ use Rattle.mig_mover.specs.Erasures.{AreAsked}
 use Rattle.mig_live.proofs.serving.serve.Goals as goal
 
 pub returns-in_err-after-clause-any_moment : goal.returns-in_err-after-clause-any_moment
-returns-in_err-after-clause-any_moment g c = more_steps c.args.live c.loop-order.after c.loop-order.invariant.task (g.S.Store.state c.args.store.now) (g.S.Store.state c.loop-order.store) (g.S.Store.state c.carry_out.new.store)
+returns-in_err-after-clause-any_moment g c = more_steps c.args.live c.loop-order.after c.loop-order.invariant.task _ _ _
     c.loop-order.invariant.any_moment c.loop-order.invariant.in_step c.carry_out.ensures.any_moment
 
 pub returns-in_err-after-clause-cut_off : goal.returns-in_err-after-clause-cut_off
@@ -69,8 +69,8 @@ loop-order-preserved g c = record {
   served = served_more c.args.live c.loop-order.after c.loop-order.invariant.task (g.S.Store.state c.args.store.now) (g.S.Store.state c.loop-order.store) c.loop-order.invariant.in_step c.args.orders.now
       c.loop-order.order-index no_order c.loop-order-test.true (g.K.Sink.state c.args.out.now) (g.K.Sink.state c.loop-order.out) (g.K.Sink.state c.carry_out.new.out) c.loop-order.invariant.served c.in_ok-after.ensures.served;
   in_step = λ asked contents at. c.in_ok-after.ensures.in_step asked contents (c.loop-order.invariant.in_step asked contents at);
-  any_moment = more_steps c.args.live c.loop-order.after c.loop-order.invariant.task (g.S.Store.state c.args.store.now) (g.S.Store.state c.loop-order.store) (g.S.Store.state c.carry_out.new.store)
-      c.loop-order.invariant.any_moment c.loop-order.invariant.in_step c.carry_out.ensures.any_moment;
+  any_moment = more_steps c.args.live c.loop-order.after c.loop-order.invariant.task _ _ _ c.loop-order.invariant.any_moment
+      c.loop-order.invariant.in_step c.carry_out.ensures.any_moment;
   landed = c.in_ok-after.ensures.landed;
   later = omega (arith, c.loop-order.invariant.later, c.carry_out.ensures.later);
   sink_later = omega (arith, c.loop-order.invariant.sink_later, c.carry_out.ensures.sink_later);

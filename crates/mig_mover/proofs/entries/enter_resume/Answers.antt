@@ -1,31 +1,27 @@
-use Rattle.mig_mover.specs.Holdings.{IsUnrefused}
-use Rattle.mig_mover.proofs.Common.{Head, IfSome, IsJobCell, IsSafe, IsSound, List, Option, false, inl, is_armed, leaves_wider, refl, subst, true, ℕ, ◌∙◌, ◌≡◌}
-use Rattle.mig_mover.proofs.Looked.{ground_back, ground_ours, saw_head, saw_kept, saw_running, store_fault}
-use Rattle.mig_mover.proofs.Settling.{ended_added, enters_from, fault_from, gate_kept, halting_armed, halting_sound, head_is, if_err, if_ok, if_ok_both, if_ok_is, journal_kept, keeps_from, keeps_lands}
-use Rattle.mig_mover.proofs.Settling.{landed_added, lands_leave, never_idle, run_part, settled_reads, settles_leave, tells_more}
+use Rattle.mig_mover.proofs.Common.{Head, IfSome, IsJobCell, IsSafe, IsSound, IsUnrefused, List, Option, false, is_armed, leaves_wider, refl}
+use Rattle.mig_mover.proofs.Common.{subst, true, ℕ, ◌∙◌, ◌≡◌}
+use Rattle.mig_mover.proofs.Looked.{ground_back, ground_ours, saw_plan}
+use Rattle.mig_mover.proofs.Settling.{ended_added, enters_from, fault_from, gate_kept, halting_armed, halting_sound, head_is, if_err, if_ok}
+use Rattle.mig_mover.proofs.Settling.{if_ok_both, if_ok_is, journal_kept, keeps_from, keeps_lands, landed_added, lands_leave, never_idle, run_part}
+use Rattle.mig_mover.proofs.Settling.{settled_reads, settles_leave, tells_more}
 use Rattle.mig_mover.proofs.entries.enter_resume.Goals as goal
 
 -- the store failed
 
 pub returns-in_err-settle_and_look-clause-keeps : goal.returns-in_err-settle_and_look-clause-keeps
 returns-in_err-settle_and_look-clause-keeps g c =
-    keeps_lands c.args.job.now (g.S.Store.state c.args.store.now) (g.met.S.Store.is_state c.args.store.now) (g.S.Store.state c.settle_and_look.new.store) c.settle_and_look.ensures.lands
-    c.settle_and_look.ensures.cause.later
+    keeps_lands c.args.job.now _ (g.met.S.Store.is_state c.args.store.now) _ c.settle_and_look.ensures.lands c.settle_and_look.ensures.cause.later
 
 pub returns-in_err-settle_and_look-clause-armed : goal.returns-in_err-settle_and_look-clause-armed
-returns-in_err-settle_and_look-clause-armed g c = λ before.
-    lands_leave (g.S.Store.state c.args.store.now) (g.met.S.Store.is_state c.args.store.now) (λ image. is_armed image ≡ true) (g.S.Store.state c.settle_and_look.new.store) c.settle_and_look.ensures.lands
+returns-in_err-settle_and_look-clause-armed g c = λ before. lands_leave _ (g.met.S.Store.is_state c.args.store.now) _ _
+    c.settle_and_look.ensures.lands
 
 pub returns-in_err-settle_and_look-clause-halting : goal.returns-in_err-settle_and_look-clause-halting
 returns-in_err-settle_and_look-clause-halting g c = λ contents n tells may.
-    lands_leave (g.S.Store.state c.args.store.now) (g.met.S.Store.is_state c.args.store.now) (IsSafe c.args.job.now.input c.args.job.now.plan c.args.job.now.digest contents)
-    (g.S.Store.state c.settle_and_look.new.store) c.settle_and_look.ensures.lands
+    lands_leave _ (g.met.S.Store.is_state c.args.store.now) _ _ c.settle_and_look.ensures.lands
 
 pub returns-in_err-settle_and_look-clause-part : goal.returns-in_err-settle_and_look-clause-part
-returns-in_err-settle_and_look-clause-part g c = landed_added (g.S.Store.state c.args.store.now) (g.S.Store.state c.settle_and_look.new.store) c.settle_and_look.ensures.lands
-
-pub returns-in_err-settle_and_look-clause-fault : goal.returns-in_err-settle_and_look-clause-fault
-returns-in_err-settle_and_look-clause-fault g c = store_fault _ c.from_residual.result c.from_residual.ensures.1 (inl c.in_err-settle_and_look.ensures.cause.failed)
+returns-in_err-settle_and_look-clause-part g c = landed_added _ _ c.settle_and_look.ensures.lands
 
 -- the gate isn't 1
 pub returns-in-Idle : goal.returns-in-Idle
@@ -75,14 +71,12 @@ returns-in-Running g c =
     let e = c.resume_running.ensures in
     let told = tells_more old mid settles (IsJobCell job.input job.plan) in
     let ended = ended_added old mid settles (IsJobCell job.input job.plan) new e.keeps.change in
-    let running = saw_running look.field-0 digest c.in-Running.is mid.reads look.ensures.gate in
-    let head = saw_head look.field-0 digest c.in-Running.is mid.reads look.ensures.head in
-    let kept = saw_kept look.field-0 digest c.in-Running.is job old mid settles look.ensures.gate look.ensures.head in
+    let saw = saw_plan look.field-0 digest c.in-Running.is job old mid settles look.ensures.gate look.ensures.head in
     record {
       keeps = keeps_from job old law mid settles later new e.keeps;
       enters = if_ok r (enters_from job old law mid settles later new) e.enters;
       ours = if_ok r (λ k same are gate armed. subst (λ (o : Option (List ℕ)). IfSome o (λ bytes. bytes ≡ job.digest)) (journal_kept old mid settles are Head refl)
-          (head_is job mid.reads running digest head (λ bytes. bytes ≡ job.digest) same)) e.ours;
+          (head_is mid.reads digest saw.1 (λ bytes. bytes ≡ job.digest) same)) e.ours;
       asked = e.asked;
       compared = e.compared;
       ended = if_ok_is r ended;
@@ -92,7 +86,7 @@ returns-in-Running g c =
           (leaves_wider (IsSafe job.input job.plan job.digest contents) (IsSound false job.input job.plan job.digest contents) mid new (λ image sound. sound.safe)
           (e.keeps.sound false contents (told tells) (halting_sound job contents old mid settles n may)));
       halted = if_ok r (λ k entered contents n tells may. entered.done false contents (told tells) (halting_sound job contents old mid settles n may)) e.enters;
-      seen = if_ok_both r (λ k ours go refuses is. go refuses (kept ours is)) e.ours e.seen;
-      fault = if_err r (fault_from job old law mid settles later new _ _ (ground_ours kept)) e.fault;
+      seen = if_ok_both r (λ k ours go refuses is. go refuses (saw.2 ours is)) e.ours e.seen;
+      fault = if_err r (fault_from job old law mid settles later new _ _ (ground_ours saw.2)) e.fault;
       kind = e.kind;
     }

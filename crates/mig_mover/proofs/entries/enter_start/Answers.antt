@@ -1,26 +1,21 @@
-use Rattle.mig_mover.proofs.Common.{IsJobCell, ap, inl, is_armed, is_running, on_ok_weaker, refl, rules, sym, true, ◌∙◌, ◌≡◌}
-use Rattle.mig_mover.proofs.Looked.{ground_back, saw_head, saw_running, store_fault}
-use Rattle.mig_mover.proofs.Settling.{ended_added, enters_from, fault_from, gate_kept, if_err, if_ok_is, keeps_from, keeps_lands, landed_added, lands_leave, never_idle, plan_fault}
-use Rattle.mig_mover.proofs.Settling.{run_part, seen_idle, settled_reads, tells_more}
+use Rattle.mig_mover.proofs.Common.{IsJobCell, ap, is_armed, is_running, on_ok_weaker, rules, sym, true, ◌∙◌, ◌≡◌}
+use Rattle.mig_mover.proofs.Looked.{ground_back, saw_plan}
+use Rattle.mig_mover.proofs.Settling.{ended_added, enters_from, fault_from, gate_kept, if_err, if_ok_is, keeps_from, keeps_lands, landed_added}
+use Rattle.mig_mover.proofs.Settling.{lands_leave, never_idle, plan_fault, run_part, seen_idle, settled_reads, tells_more}
 use Rattle.mig_mover.proofs.entries.enter_start.Goals as goal
 
 -- the store failed
 
 pub returns-in_err-settle_and_look-clause-keeps : goal.returns-in_err-settle_and_look-clause-keeps
 returns-in_err-settle_and_look-clause-keeps g c =
-    let settled = g.S.Store.state c.settle_and_look.new.store in
-    keeps_lands c.args.job.now (g.S.Store.state c.args.store.now) (g.met.S.Store.is_state c.args.store.now) settled c.settle_and_look.ensures.lands c.settle_and_look.ensures.cause.later
+    keeps_lands c.args.job.now _ (g.met.S.Store.is_state c.args.store.now) _ c.settle_and_look.ensures.lands c.settle_and_look.ensures.cause.later
 
 pub returns-in_err-settle_and_look-clause-armed : goal.returns-in_err-settle_and_look-clause-armed
-returns-in_err-settle_and_look-clause-armed g c = λ before.
-    let settled = g.S.Store.state c.settle_and_look.new.store in
-    lands_leave (g.S.Store.state c.args.store.now) (g.met.S.Store.is_state c.args.store.now) (λ image. is_armed image ≡ true) settled c.settle_and_look.ensures.lands
+returns-in_err-settle_and_look-clause-armed g c = λ before. lands_leave _ (g.met.S.Store.is_state c.args.store.now) _ _
+    c.settle_and_look.ensures.lands
 
 pub returns-in_err-settle_and_look-clause-part : goal.returns-in_err-settle_and_look-clause-part
-returns-in_err-settle_and_look-clause-part g c = landed_added (g.S.Store.state c.args.store.now) (g.S.Store.state c.settle_and_look.new.store) c.settle_and_look.ensures.lands
-
-pub returns-in_err-settle_and_look-clause-fault : goal.returns-in_err-settle_and_look-clause-fault
-returns-in_err-settle_and_look-clause-fault g c = store_fault _ c.from_residual.result c.from_residual.ensures.1 (inl c.in_err-settle_and_look.ensures.cause.failed)
+returns-in_err-settle_and_look-clause-part g c = landed_added _ _ c.settle_and_look.ensures.lands
 
 -- the gate isn't 1
 pub returns-in-Idle : goal.returns-in-Idle
@@ -56,22 +51,17 @@ returns-in-Idle g c =
 
 pub returns-in-Running-clause-keeps : goal.returns-in-Running-clause-keeps
 returns-in-Running-clause-keeps g c =
-    let settled = g.S.Store.state c.settle_and_look.new.store in
-    keeps_lands c.args.job.now (g.S.Store.state c.args.store.now) (g.met.S.Store.is_state c.args.store.now) settled c.settle_and_look.ensures.lands c.settle_and_look.ensures.cause.later
+    keeps_lands c.args.job.now _ (g.met.S.Store.is_state c.args.store.now) _ c.settle_and_look.ensures.lands c.settle_and_look.ensures.cause.later
 
 pub returns-in-Running-clause-armed : goal.returns-in-Running-clause-armed
-returns-in-Running-clause-armed g c = λ before.
-    let settled = g.S.Store.state c.settle_and_look.new.store in
-    lands_leave (g.S.Store.state c.args.store.now) (g.met.S.Store.is_state c.args.store.now) (λ image. is_armed image ≡ true) settled c.settle_and_look.ensures.lands
+returns-in-Running-clause-armed g c = λ before. lands_leave _ (g.met.S.Store.is_state c.args.store.now) _ _ c.settle_and_look.ensures.lands
 
 pub returns-in-Running-clause-part : goal.returns-in-Running-clause-part
-returns-in-Running-clause-part g c = landed_added (g.S.Store.state c.args.store.now) (g.S.Store.state c.settle_and_look.new.store) c.settle_and_look.ensures.lands
+returns-in-Running-clause-part g c = landed_added _ _ c.settle_and_look.ensures.lands
 
 pub returns-in-Running-clause-fault : goal.returns-in-Running-clause-fault
 returns-in-Running-clause-fault g c =
-    let mid = g.S.Store.state c.settle_and_look.new.store in
-    let look = c.in_ok-settle_and_look in
+    let look = c.in_ok-settle_and_look.ensures in
     let kept = c.in-Running.digest in
-    let running = saw_running look.field-0 kept c.in-Running.is mid.reads look.ensures.gate in
-    let head = saw_head look.field-0 kept c.in-Running.is mid.reads look.ensures.head in
-    if_err c.refuse_start.result (plan_fault c.args.job.now mid.reads running kept head _ (g.S.Store.state c.args.store.now) mid refl look.ensures.settles) c.refuse_start.ensures.fault
+    let saw = saw_plan _ kept c.in-Running.is c.args.job.now _ _ look.settles look.gate look.head in
+    if_err c.refuse_start.result (plan_fault c.args.job.now _ _ look.settles saw.0 kept saw.1 _) c.refuse_start.ensures.fault

@@ -1,5 +1,4 @@
-use Rattle.mig_mover.proofs.Common.{AllWithin, ChangesOnly, HoldsZeros, IsSourceSlot, round_at, slot_of, ◌≤◌}
-use Rattle.mig_mover.specs.Holdings.{IsSeen}
+use Rattle.mig_mover.proofs.Common.{AllWithin, ChangesOnly, HoldsZeros, IsSeen, IsSourceSlot, round_at, slot_of, ◌≤◌}
 use Rattle.mig_mover.proofs.erasing.erase_sources.Given as goal
 
 abbrev pub invariant-loop-place : goal.invariant-loop-place

@@ -1,5 +1,4 @@
-use Rattle.mig_mover.proofs.Common.{AllWithin, ChangesOnly, NoCell, round_at, slot_of, ◌≤◌}
-use Rattle.mig_store.specs.Grounds.{Remembers}
+use Rattle.mig_mover.proofs.Common.{AllWithin, ChangesOnly, NoCell, Remembers, round_at, slot_of, ◌≤◌}
 use Rattle.mig_mover.proofs.expecting.expect_copies.Given as goal
 
 abbrev pub invariant-loop-place : goal.invariant-loop-place

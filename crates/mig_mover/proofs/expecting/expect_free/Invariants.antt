@@ -1,5 +1,4 @@
-use Rattle.mig_mover.proofs.Common.{AllWithin, ChangesOnly, IsVacant, NoCell, slot_of, ◌≤◌}
-use Rattle.mig_store.specs.Grounds.{Remembers}
+use Rattle.mig_mover.proofs.Common.{AllWithin, ChangesOnly, IsVacant, NoCell, Remembers, slot_of, ◌≤◌}
 use Rattle.mig_mover.proofs.expecting.expect_free.Given as goal
 
 abbrev pub invariant-loop-v : goal.invariant-loop-v

@@ -1,5 +1,4 @@
-use Rattle.mig_mover.proofs.Common.{AllWithin, ChangesOnly, HoldsZeros, IsFreeSlot, IsVacant, slot_of, ◌≤◌}
-use Rattle.mig_mover.specs.Holdings.{IsSeen}
+use Rattle.mig_mover.proofs.Common.{AllWithin, ChangesOnly, HoldsZeros, IsFreeSlot, IsSeen, IsVacant, slot_of, ◌≤◌}
 use Rattle.mig_mover.proofs.halting.erase_free.Given as goal
 
 abbrev pub invariant-loop-v : goal.invariant-loop-v

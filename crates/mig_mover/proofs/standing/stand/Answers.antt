@@ -1,7 +1,6 @@
-use Rattle.mig_mover.proofs.Common.{Err, IfErr, IsStandFault, NotStarted, ap, inl, is_running, refl, rules, sym, ◌∙◌}
-use Rattle.mig_mover.proofs.Looked.{ground_ours, saw_head, saw_kept, saw_running, store_fault}
+use Rattle.mig_mover.proofs.Common.{Err, IfErr, IsStandFault, IsUnrefused, NotStarted, ap, inl, is_running, refl, rules, sym, ◌∙◌}
+use Rattle.mig_mover.proofs.Looked.{ground_ours, saw_plan}
 use Rattle.mig_mover.proofs.Settling.{if_err, if_ok_both, settles_land, settles_quiet, seen_idle}
-use Rattle.mig_mover.specs.Holdings.{IsUnrefused}
 use Rattle.mig_mover.proofs.StandLaws.{if_ok_all, stands_at, stand_fault, not_started, other_plan, stands_ok}
 use Rattle.mig_mover.proofs.standing.stand.Goals as goal
 
@@ -14,19 +13,20 @@ returns-in-Running g c =
     let look = c.in_ok-settle_and_look in
     let digest = c.in-Running.digest in
     let r = c.stand_running.result in
-    let running = saw_running look.field-0 digest c.in-Running.is mid.reads look.ensures.gate in
-    let head = saw_head look.field-0 digest c.in-Running.is mid.reads look.ensures.head in
-    let kept = saw_kept look.field-0 digest c.in-Running.is job old mid look.ensures.settles look.ensures.gate look.ensures.head in
-    let stands = if_ok_all r (stands_at job old mid look.ensures.settles c.settle_and_look.ensures.cause.later running digest head new c.stand_running.ensures.change)
+    let later = c.settle_and_look.ensures.cause.later in
+    let change = c.stand_running.ensures.change in
+    let saw = saw_plan look.field-0 digest c.in-Running.is job old mid look.ensures.settles look.ensures.gate look.ensures.head in
+    let stands = if_ok_all r (stands_at job old mid look.ensures.settles later saw.0 digest saw.1 new change)
     c.stand_running.ensures.most c.stand_running.ensures.ours c.stand_running.ensures.count in
-    let fault : IfErr r (IsStandFault (g.S.Store.refuses × (IsUnrefused job old → ⊥)) job old new) = if_err r
-    (stand_fault job old mid look.ensures.settles c.settle_and_look.ensures.cause.later running digest head new c.stand_running.ensures.change _ _ (ground_ours kept)) c.stand_running.ensures.fault in
+    let fault : IfErr r (IsStandFault (g.S.Store.refuses × (IsUnrefused job old → ⊥)) job old new) =
+    if_err r (stand_fault job old mid look.ensures.settles later saw.0 digest saw.1 new change _ _ (ground_ours saw.2)) c.stand_running.ensures.fault
+    in
     record {
       stands = stands;
       asked = c.stand_running.ensures.asked;
       compared = c.stand_running.ensures.compared;
-      seen = if_ok_both r (λ k ours go refuses is. go refuses (kept ours is)) c.stand_running.ensures.ours c.stand_running.ensures.seen;
-      lands = settles_land old new (settles_quiet old mid look.ensures.settles new c.stand_running.ensures.change);
+      seen = if_ok_both r (λ k ours go refuses is. go refuses (saw.2 ours is)) c.stand_running.ensures.ours c.stand_running.ensures.seen;
+      lands = settles_land old new (settles_quiet old mid look.ensures.settles new change);
       fault = fault;
       not_started = λ are calm told idle. not_started job _ old new are calm told idle r stands fault;
       other = λ are calm armed kept head differs. other_plan job _ old new are calm armed kept head differs r stands fault;
@@ -52,9 +52,6 @@ returns-in-Idle-clause-running g c =
     λ are calm armed head. stands_ok c.args.job.now _ (g.S.Store.state c.args.store.now) new are calm armed c.args.job.now.digest head refl (Err NotStarted) (c.in_ok-settle_and_look.ensures.settles, idle)
 
 -- the store failed
-
-pub returns-in_err-settle_and_look-clause-fault : goal.returns-in_err-settle_and_look-clause-fault
-returns-in_err-settle_and_look-clause-fault g c = store_fault _ c.from_residual.result c.from_residual.ensures.1 (inl c.in_err-settle_and_look.ensures.cause.failed)
 
 pub returns-in_err-settle_and_look-clause-not_started : goal.returns-in_err-settle_and_look-clause-not_started
 returns-in_err-settle_and_look-clause-not_started g c = λ are calm. absurd (calm (inl c.in_err-settle_and_look.ensures.cause.failed))

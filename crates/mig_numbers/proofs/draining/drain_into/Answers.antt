@@ -1,13 +1,6 @@
-use Rattle.mig_base.proofs.Common.{length-map-range_with_len}
-use Rattle.mig_base.specs.DiskNumbers.{numbers}
-use Rattle.mig_base.specs.InputLists.{InputLists}
-use Rattle.mig_base.specs.declared.ids.DiskId.{DiskId}
-use Rattle.mig_gen.specs.MadeCases.{made_item}
-use Rattle.mig_numbers.specs.Drains.{IsDrain}
-use Rattle.mig_numbers.specs.Handed.{IsHanded}
+use Rattle.mig_numbers.proofs.Common.{DiskId, InputLists, IsDrain, IsHanded, List, length, length-map, length-map-range_with_len, made_item, numbers}
+use Rattle.mig_numbers.proofs.Common.{subst, sym, ◌∙◌}
 use Rattle.mig_numbers.proofs.draining.drain_into.Goals as goal
-use Rattle.std.proofs.Common.{List, length, subst, sym, ◌∙◌}
-use Rattle.std.proofs.lemmas.List.{length-map}
 
 pub returns-in-Ok-drain-clause-drained : goal.returns-in-Ok-drain-clause-drained
 returns-in-Ok-drain-clause-drained c =

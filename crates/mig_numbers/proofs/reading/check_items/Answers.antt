@@ -1,10 +1,6 @@
-use Rattle.std.proofs.Common.{false, get_or, rules, ◌≡◌}
-use Rattle.std.specs.Result.{is_err}
-use Rattle.mig_csv.proofs.Common.{on-ok}
+use Rattle.mig_numbers.proofs.Common.{false, get_or, get_or_default, is_err, no_item, on-ok, rules, ◌≡◌}
 use Rattle.mig_numbers.proofs.Inputs.{sound_next, spots_next}
-use Rattle.mig_numbers.specs.Numbers.{no_item}
 use Rattle.mig_numbers.proofs.reading.check_items.Goals as goal
-use Rattle.std.proofs.lemmas.List.{get_or_default}
 
 pub loop-k-preserved : goal.loop-k-preserved
 loop-k-preserved c =

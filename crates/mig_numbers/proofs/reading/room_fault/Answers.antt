@@ -1,14 +1,9 @@
-use Rattle.mig_base.proofs.Common.{ap, arith, disk_at, inr, no_disk, subst, sym, ◌-◌, ◌∙◌, ◌≡◌}
-use Rattle.mig_base.proofs.Scheduled.{is_at}
-use Rattle.mig_base.specs.declared.faults.Why.{Why}
+use Rattle.mig_numbers.proofs.Common.{Disk, IsRoomFault, RefusesRoom, Why, ap, arith, disk_at, inr, is_at, no_disk, slice_get_within, subst, sym, ◌-◌}
+use Rattle.mig_numbers.proofs.Common.{◌∙◌, ◌≡◌}
 use Rattle.mig_base.specs.declared.faults.Why.TheVariants.{NoRoom as no_room}
-use Rattle.mig_base.specs.declared.inputs.Disk.{Disk}
-use Rattle.mig_csv.specs.Lists.{RefusesRoom}
 use Rattle.mig_csv.specs.declared.errors.InputError.TheVariants.{Refused}
-use Rattle.mig_numbers.specs.Refusals.{IsRoomFault}
 use Rattle.mig_numbers.specs.declared.numbers.NumbersRefusal.TheVariants.{NoRoom}
 use Rattle.mig_numbers.proofs.reading.room_fault.Goals as goal
-use Rattle.std.proofs.lemmas.Option.{slice_get_within}
 
 pub returns-in-Err-Refused-default-default-NoRoom : goal.returns-in-Err-Refused-default-default-NoRoom
 returns-in-Err-Refused-default-default-NoRoom c =

@@ -1,6 +1,5 @@
-use Rattle.std.proofs.Common.{subst, sym}
+use Rattle.mig_numbers.proofs.Common.{IsOfPairs, subst, sym}
 use Rattle.mig_numbers.proofs.Slotless.{slotless}
-use Rattle.mig_numbers.specs.Rounds.{IsOfPairs}
 use Rattle.mig_numbers.specs.declared.numbers.Refused.{Refused}
 use Rattle.mig_numbers.proofs.scheduling.schedule.Goals as goal
 

@@ -1,18 +1,8 @@
-use Rattle.std.proofs.Common.{List, arith, inl, inr, length, subst, sym, ◌∙◌, ◌≡◌}
-use Rattle.mig_base.proofs.Common.{length-map-range_with_len}
-use Rattle.mig_base.specs.InputLists.{InputLists}
-use Rattle.mig_base.specs.Targets.{IsRoomy}
-use Rattle.mig_best.specs.Certified.{IsCertified}
-use Rattle.mig_gen.specs.MadeCases.{made_item}
-use Rattle.mig_numbers.specs.Numbers.{input_of}
-use Rattle.mig_numbers.specs.Refusals.{AreSound}
+use Rattle.mig_numbers.proofs.Common.{AreSound, DiskNumbers, InputLists, IsCertified, IsRoomy, ItemNumbers, List, arith, disk_for, disks_for, inl}
+use Rattle.mig_numbers.proofs.Common.{input_of, inr, item_for, items_for, length, length-map, length-map-range_with_len, made_item, set_in, subst}
+use Rattle.mig_numbers.proofs.Common.{sym, ◌∙◌, ◌≡◌}
 use Rattle.mig_numbers.proofs.Scheduled.{scheduled_pairs}
-use Rattle.mig_numbers.specs.Handed.{set_in}
-use Rattle.mig_numbers.specs.Rounds.{disk_for, disks_for, item_for, items_for}
-use Rattle.mig_numbers.specs.declared.numbers.DiskNumbers.{DiskNumbers}
-use Rattle.mig_numbers.specs.declared.numbers.ItemNumbers.{ItemNumbers}
 use Rattle.mig_numbers.proofs.scheduling.schedule_into.Goals as goal
-use Rattle.std.proofs.lemmas.List.{length-map}
 
 pub returns-then-pairs-gt-MAX_ITEMS-clause-refused : goal.returns-then-pairs-gt-MAX_ITEMS-clause-refused
 returns-then-pairs-gt-MAX_ITEMS-clause-refused c =
@@ -24,12 +14,12 @@ returns-then-pairs-gt-MAX_ITEMS-clause-refused c =
 
 pub plan_input-requires : goal.plan_input-requires
 plan_input-requires c =
-    let read = c.in-Ok-read_numbers.ensures in
+    let read = c.in_ok-input.ensures in
     subst IsRoomy (sym read.input) read.sound.roomy
 
 pub mark_plan-requires-clause-within : goal.mark_plan-requires-clause-within
 mark_plan-requires-clause-within c k d lt j e below =
-    let read = c.in-Ok-read_numbers.ensures in
+    let read = c.in_ok-input.ensures in
     let pairs = c.args.pairs.now in
     let items : c.deref-2.result.now ≡ items_for pairs = c.deref-2.ensures.value ∙ c.in-Ok-make_movers.ensures in
     let made = subst (λ (i : InputLists). IsCertified i c.in-Ok-plan_input.made.plan c.in-Ok-plan_input.made.cert) read.input c.in-Ok-plan_input.ensures in
@@ -38,7 +28,7 @@ mark_plan-requires-clause-within c k d lt j e below =
 
 pub returns-clause-scheduled : goal.returns-clause-scheduled
 returns-clause-scheduled c =
-    let read = c.in-Ok-read_numbers.ensures in
+    let read = c.in_ok-input.ensures in
     let split = c.args.split in
     let plan = c.in-Ok-plan_input.made.plan in
     let cert = c.in-Ok-plan_input.made.cert in

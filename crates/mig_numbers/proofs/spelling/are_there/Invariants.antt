@@ -1,5 +1,4 @@
-use Rattle.std.proofs.Common.{get_or, ℕ, ◌<◌}
-use Rattle.mig_base.specs.declared.ids.DiskId.{DiskId}
+use Rattle.mig_numbers.proofs.Common.{DiskId, get_or, ℕ, ◌<◌}
 use Rattle.mig_numbers.proofs.spelling.are_there.Given as goal
 
 abbrev pub invariant-loop-id : goal.invariant-loop-id

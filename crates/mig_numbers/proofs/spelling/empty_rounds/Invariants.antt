@@ -1,4 +1,4 @@
-use Rattle.std.proofs.Common.{All, [], length, ◌≡◌}
+use Rattle.mig_numbers.proofs.Common.{All, [], length, ◌≡◌}
 use Rattle.mig_numbers.proofs.spelling.empty_rounds.Given as goal
 
 abbrev pub invariant-loop : goal.invariant-loop

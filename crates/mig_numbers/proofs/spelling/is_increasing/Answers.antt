@@ -1,4 +1,4 @@
-use Rattle.std.proofs.Common.{rules}
+use Rattle.mig_numbers.proofs.Common.{rules}
 use Rattle.mig_numbers.proofs.SortedRows.{increasing_next}
 use Rattle.mig_numbers.proofs.spelling.is_increasing.Goals as goal
 

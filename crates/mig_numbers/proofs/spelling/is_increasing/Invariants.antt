@@ -1,4 +1,4 @@
-use Rattle.std.proofs.Common.{get_or, ℕ, ◌<◌}
+use Rattle.mig_numbers.proofs.Common.{get_or, ℕ, ◌<◌}
 use Rattle.mig_numbers.proofs.spelling.is_increasing.Given as goal
 
 abbrev pub invariant-loop-k : goal.invariant-loop-k

@@ -1,5 +1,4 @@
-use Rattle.std.proofs.Common.{map, ◌≡◌}
-use Rattle.mig_numbers.specs.Spelled.{round_shifts}
+use Rattle.mig_numbers.proofs.Common.{map, round_shifts, ◌≡◌}
 use Rattle.mig_numbers.proofs.spelling.plan_of.Given as goal
 
 abbrev pub invariant-loop-round : goal.invariant-loop-round

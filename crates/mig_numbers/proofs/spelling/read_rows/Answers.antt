@@ -1,5 +1,4 @@
-use Rattle.mig_base.proofs.Common.{IfOk, List, subst, ◌≡◌}
-use Rattle.mig_base.specs.declared.ids.Shift.{Shift}
+use Rattle.mig_numbers.proofs.Common.{IfOk, List, Shift, subst, ◌≡◌}
 use Rattle.mig_numbers.proofs.SortedRows.{sorted_is}
 use Rattle.mig_numbers.proofs.spelling.read_rows.Goals as goal
 

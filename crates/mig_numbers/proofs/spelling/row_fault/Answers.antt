@@ -1,4 +1,4 @@
-use Rattle.std.proofs.Common.{arith}
+use Rattle.mig_numbers.proofs.Common.{arith}
 use Rattle.mig_numbers.proofs.spelling.row_fault.Goals as goal
 
 pub returns : goal.returns

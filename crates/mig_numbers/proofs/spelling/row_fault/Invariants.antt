@@ -1,4 +1,4 @@
-use Rattle.mig_numbers.specs.Judged.{AreRowsSound}
+use Rattle.mig_numbers.proofs.Common.{AreRowsSound}
 use Rattle.mig_numbers.proofs.spelling.row_fault.Given as goal
 
 abbrev pub invariant-loop-k : goal.invariant-loop-k

@@ -1,8 +1,5 @@
-use Rattle.mig_base.proofs.Common.{subst, sym, ◌<◌}
-use Rattle.mig_base.specs.DiskNumbers.{IsDiskSet}
-use Rattle.mig_base.specs.declared.ids.DiskId.{DiskId}
+use Rattle.mig_numbers.proofs.Common.{DiskId, IsDiskSet, disk_id, subst, sym, ◌<◌}
 use Rattle.mig_numbers.proofs.Lists.{pairs_in}
-use Rattle.mig_numbers.specs.Judged.{disk_id}
 use Rattle.mig_numbers.proofs.spelling.set_by.Goals as goal
 
 pub of-requires : goal.of-requires

@@ -1,4 +1,4 @@
-use Rattle.mig_numbers.specs.Spelled.{AreSorted}
+use Rattle.mig_numbers.proofs.Common.{AreSorted}
 use Rattle.mig_numbers.proofs.spelling.sort_rows.Given as goal
 
 abbrev pub invariant-loop-row : goal.invariant-loop-row

@@ -1,7 +1,4 @@
-use Rattle.std.proofs.Common.{length, subst, ◌+◌, ◌≡◌}
-use Rattle.mig_base.specs.InputLists.{InputLists}
-use Rattle.mig_base.specs.TightPlans.{IsTightPlan, parked}
-use Rattle.mig_base.specs.Transfers.{moves}
+use Rattle.mig_numbers.proofs.Common.{InputLists, IsTightPlan, length, moves, parked, subst, ◌+◌, ◌≡◌}
 use Rattle.mig_numbers.proofs.TightRows.{hands_tight}
 use Rattle.mig_numbers.proofs.tight.plan_tight_into.Goals as goal
 

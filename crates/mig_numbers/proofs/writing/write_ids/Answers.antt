@@ -1,8 +1,6 @@
-use Rattle.std.proofs.Common.{[], arith, get_or, sym, ◌∙◌}
-use Rattle.mig_base.specs.declared.ids.DiskId.{DiskId}
-use Rattle.mig_numbers.proofs.Rows.{covered_none, cover_next}
+use Rattle.mig_numbers.proofs.Common.{DiskId, [], arith, get_or, get_or_default, sym, ◌∙◌}
+use Rattle.mig_numbers.proofs.Rows.{cover_next, covered_none}
 use Rattle.mig_numbers.proofs.writing.write_ids.Goals as goal
-use Rattle.std.proofs.lemmas.List.{get_or_default}
 
 pub loop-k-init : goal.loop-k-init
 loop-k-init c = sym (covered_none c.args.set.now)

@@ -1,6 +1,4 @@
-use Rattle.std.proofs.Common.{take, ◌≡◌}
-use Rattle.mig_base.specs.DiskNumbers.{numbers}
-use Rattle.mig_numbers.specs.Handed.{covered}
+use Rattle.mig_numbers.proofs.Common.{covered, numbers, take, ◌≡◌}
 use Rattle.mig_numbers.proofs.writing.write_ids.Given as goal
 
 abbrev pub invariant-loop-k : goal.invariant-loop-k

@@ -1,4 +1,4 @@
-use Rattle.mig_tight.proofs.Common.{IsTightPlan, List, PlanFits, Shift, subst, sym}
+use Rattle.mig_tight.proofs.Common.{IsTightPlan, List, Shift, arith, subst, sym}
 use Rattle.mig_tight.proofs.Counts.{all_on_next}
 use Rattle.mig_tight.proofs.Endings.{tight_end, plan_fits}
 use Rattle.mig_tight.proofs.plans.plan_over.Goals as goal
@@ -13,6 +13,4 @@ returns-clause-tight c =
     subst P (sym c.into_plan.ensures) (tight_end input is s st (all_on_next input is s st c.in_ok-clear_all.ensures.unawaited c.requires.fits c.in_ok-clear_all.ensures.cleared))
 
 pub returns-clause-spelled : goal.returns-clause-spelled
-returns-clause-spelled c =
-    let P : List (List Shift) → Type 0 = λ plan. PlanFits c.args.input.now plan in
-    subst P (sym c.into_plan.ensures) (plan_fits c.args.input.now c.clear_all.new.self c.keeps_rules.ensures c.in_ok-clear_all.ensures.sound)
+returns-clause-spelled c = grind (arith, plan_fits)

@@ -1,11 +1,12 @@
 use Rattle.mig_calls.proofs.Common.{FileMoment, NoByte, Synced, ap}
-use Rattle.mig_calls.proofs.FileLists.{on_ok}
+use Rattle.std.proofs.lemmas.Result.{on_ok_weaker}
 use Rattle.mig_calls.proofs.FilesSteps.{either, change_then, touches_then, touches_of}
 use Rattle.mig_calls.proofs.MemorySteps.{kept_change, kept_touches, touches, synced_look, file_here}
 use Rattle.mig_calls.proofs.memory.MemCalls.bring.Goals as goal
 
 pub returns-clause-brought : goal.returns-clause-brought
-returns-clause-brought c = on_ok c.change.result (λ is. ap (λ (f : FileMoment). f.flushed) (file_here c.open.new.self c.change.new.self c.args.place.now Synced is)) c.change.ensures.done
+returns-clause-brought c = on_ok_weaker c.change.result
+    (λ is. ap (λ (f : FileMoment). f.flushed) (file_here c.open.new.self c.change.new.self c.args.place.now Synced is)) c.change.ensures.done
 
 pub returns-clause-flags : goal.returns-clause-flags
 returns-clause-flags c =

@@ -1,11 +1,11 @@
 use Rattle.mig_calls.proofs.Common.{FileMemory, IsWithin, Wrote, ap, arith, length}
-use Rattle.mig_calls.proofs.FileLists.{on_ok}
+use Rattle.std.proofs.lemmas.Result.{on_ok_weaker}
 use Rattle.mig_calls.proofs.FilesSteps.{either}
 use Rattle.mig_calls.proofs.MemorySteps.{kept_change, kept_touches, touches, wrote_has, wrote_given}
 use Rattle.mig_calls.proofs.memory.MemCalls.put.Goals as goal
 
 pub returns-in-Ok-clause-written : goal.returns-in-Ok-clause-written
-returns-in-Ok-clause-written c = on_ok c.change.result
+returns-in-Ok-clause-written c = on_ok_weaker c.change.result
     (λ is. wrote_has c.args.self.now c.change.new.self c.args.place.now c.args.at c.in-Ok.values is c.args.values.now c.in-Ok.ensures) c.change.ensures.done
 
 pub returns-in-Ok-clause-change : goal.returns-in-Ok-clause-change

@@ -1,5 +1,4 @@
-use Rattle.mig_calls.proofs.Common.{length, ◌∙◌}
-use Rattle.mig_calls.proofs.FileLists.{take_most}
+use Rattle.mig_calls.proofs.Common.{arith, length, length-take, ◌∙◌}
 use Rattle.mig_calls.proofs.FilesSteps.{change_then, change_within, look_change, touches_then, touches_of, within_more}
 use Rattle.mig_calls.proofs.memory.MemCallsCalls.write_at.Goals as goal
 
@@ -20,7 +19,8 @@ returns-in_err-put-clause-flags c =
 pub returns-in_err-put-clause-change : goal.returns-in_err-put-clause-change
 returns-in_err-put-clause-change c =
     change_then (look_change (change_then c.open.ensures.look c.make.ensures.look))
-    (change_within (within_more c.args.place.now c.args.offset _ (length c.args.bytes.now) (take_most c.most-count.result c.args.bytes.now)) c.put.ensures.change)
+    (change_within (within_more c.args.place.now c.args.offset _ (length c.args.bytes.now)
+    (omega (arith, length-take c.most-count.result c.args.bytes.now))) c.put.ensures.change)
 
 pub returns-clause-flags : goal.returns-clause-flags
 returns-clause-flags c =
@@ -30,4 +30,5 @@ returns-clause-flags c =
 pub returns-clause-change : goal.returns-clause-change
 returns-clause-change c =
     change_then (look_change (change_then c.open.ensures.look c.make.ensures.look))
-    (change_within (within_more c.args.place.now c.args.offset _ (length c.args.bytes.now) (take_most c.most-count.result c.args.bytes.now)) c.put.ensures.change)
+    (change_within (within_more c.args.place.now c.args.offset _ (length c.args.bytes.now)
+    (omega (arith, length-take c.most-count.result c.args.bytes.now))) c.put.ensures.change)

@@ -13,22 +13,13 @@ use Rattle.mig_live.proofs.live.Live.read.Goals as goal
 use Rattle.mig_live.proofs.live.Live.read.Goals.{After-expects}
 
 pub returns-clause-change : goal.returns-clause-change
-returns-clause-change g c = looks_then (g.S.Store.state c.args.store.now) (g.S.Store.state c.expects.new.self) (g.S.Store.state c.read.new.self) c.expects.ensures.change c.read.ensures.change
+returns-clause-change g c = looks_then _ _ _ c.expects.ensures.change c.read.ensures.change
 
 pub returns-clause-in_step : goal.returns-clause-in_step
-returns-clause-in_step g c =
-    let task = c.args.self.now.task in
-    let old = g.S.Store.state c.args.store.now in
-    let mid = g.S.Store.state c.expects.new.self in
-    let new = g.S.Store.state c.read.new.self in
-    λ asked contents at. step_looked asked task.input task.plan task.digest contents c.args.self.now.marked old new (done_in c.args.self.now)
-    (looks_then old mid new c.expects.ensures.change c.read.ensures.change) at
+returns-clause-in_step g c = λ asked contents at. step_looked _ _ _ _ _ _ _ _ _ (looks_then _ _ _ c.expects.ensures.change c.read.ensures.change) at
 
 pub returns-in_err-expects-clause-in_step : goal.returns-in_err-expects-clause-in_step
-returns-in_err-expects-clause-in_step g c =
-    let task = c.args.self.now.task in
-    λ asked contents at. step_looked asked task.input task.plan task.digest contents c.args.self.now.marked (g.S.Store.state c.args.store.now) (g.S.Store.state c.expects.new.self)
-    (done_in c.args.self.now) c.expects.ensures.change at
+returns-in_err-expects-clause-in_step g c = λ asked contents at. step_looked _ _ _ _ _ _ _ _ _ c.expects.ensures.change at
 
 -- the name that is asked for is the item's
 named : (g : given.Over) (c : goal.After-expects g) → c.index-items-item.result ≡ item_name c.self.inside.job.now.input c.args.item.0

@@ -1,15 +1,9 @@
 use Rattle.mig_store.proofs.Common.{AreWithin, Cell, CellBytes, Entry, Event, Flight, Held, IsLog, List, StoreCall, [], ap, arith, cell_of, firsts, fresh, held_at, held_map, length, map, option_map, seen_all}
-use Rattle.mig_store.proofs.Common.{subst, sym, zero_entry, zero_held, ℕ, ◌+◌, ◌∙◌, ◌≡◌, ◌≤◌}
+use Rattle.mig_store.proofs.Common.{subst, sym, zero_entry, zero_held, ℕ, ◌∙◌, ◌≡◌}
 use Rattle.mig_store.proofs.CellLists.{held_at-map, zero-lengths}
 use Rattle.mig_store.proofs.Crashes.{HaveLengths, fresh_log}
 use Rattle.mig_store.proofs.EntryLists.{seen_zero, firsts_zero, within_zero, cells_of-entries}
 use Rattle.mig_store.proofs.ledger.Ledger.new.Goals as goal
-
-one_at_most : (n : ℕ) → 1 ≤ n + 1
-one_at_most n = omega arith
-
-fits : (a b : ℕ) → a ≡ b → b ≤ a
-fits a b same = omega arith
 
 -- cells that hold zeros, before the first call
 module _ (cells : List Cell) (items : List (Held Entry)) (zero : items ≡ map zero_entry cells) where
@@ -43,9 +37,9 @@ invariant_of-result c =
       is_log cells items c.in_ok-zero_entries.ensures calls c.in_ok-new.ensures.calls c.args.room c.in_ok-with_capacity.field-0.items c.in_ok-with_capacity.ensures.items c.in_ok-with_capacity-2.field-0.items c.in_ok-with_capacity-2.ensures.items,
       c.in_ok-of.ensures ∙ are_cells cells items c.in_ok-zero_entries.ensures,
       are_within cells items c.in_ok-zero_entries.ensures (length calls),
-      one_at_most 0,
-      one_at_most (length calls),
-      fits c.in_ok-new.field-0.room c.args.room c.in_ok-new.ensures.room,
+      omega arith,
+      omega arith,
+      omega (arith, c.in_ok-new.ensures.room),
       c.in_ok-with_capacity.ensures.capacity,
       c.in_ok-with_capacity-2.ensures.capacity,
     )

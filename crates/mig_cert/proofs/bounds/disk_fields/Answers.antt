@@ -1,5 +1,0 @@
-use Rattle.mig_cert.proofs.Common.{rules}
-use Rattle.mig_cert.proofs.bounds.disk_fields.Goals as goal
-
-pub returns : goal.returns
-returns c = search rules

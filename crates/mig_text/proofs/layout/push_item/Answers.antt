@@ -1,5 +1,0 @@
-use Rattle.mig_text.proofs.Common.{arith, common_steps}
-use Rattle.mig_text.proofs.layout.push_item.Goals as goal
-
-pub returns : goal.returns
-returns c = grind (arith, common_steps)
