@@ -13,9 +13,6 @@ ROW = re.compile(r"^- \*\*([^*]+)\*\*, ((?:`[^`]+`(?:, | and )?)+): \S", re.M)
 SAME = {"SinkFailed", "StoreFailed", "count_line", "layout_of", "same_spot", "spot"}
 # words that another has taken the place of, as parts of names
 GONE = {"trip": "transfer", "ending": "outcome", "finding": "refusal"}
-# names that still mean two things, or have such a word
-STILL = set("""
-""".split())
 
 
 def defined(top):
@@ -58,9 +55,8 @@ def look(top, that):
     """Says of each word whether it holds."""
     found, names = wrong(top), defined(top)
     that(names, "no name is found in the crates")
-    for name in sorted({*found, *STILL}):
-        said = found.get(name, "is still listed in tests/pages_words.py, and is right")
-        that((name in found) == (name in STILL), f"the name {name} {said}")
+    for name in sorted(found):
+        that(False, f"the name {name} {found[name]}")
     with open(f"{top}/{PAGE}", encoding="utf-8") as file:
         page = file.read().partition(TITLE)[2].partition("\n## ")[0]
     rows = ROW.findall(page)
