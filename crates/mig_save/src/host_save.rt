@@ -1,6 +1,6 @@
 //! The calls that save a file, over the system. Each makes the one call that its name says, and what that needs to be safe.
 ghost use Rattle.std.specs.IoError.{error_kind};
-ghost use Rattle.std.specs.Prelude.{◌≢◌, ◌≤◌, ◌<◌, IfOk, IfErr, length};
+ghost use Rattle.std.specs.Prelude.{◌≡◌, ◌≢◌, ◌≤◌, ◌<◌, IfOk, IfErr, OnErr, length};
 ghost use Rattle.mig_base.specs.FaultCounts.{Rose};
 ghost use Rattle.mig_save.specs.HostSaves.{host_state, host_is_state};
 
@@ -94,12 +94,15 @@ impl<'a, R: Files<File = File>> HostSave<'a, R> {
     }
 
     /// Counts a call that failed.
-    fn counted(&mut self, error: Error) -> Error
-        ensures rose { Rose self.old.failures self.new.failures }
+    fn counted<T>(&mut self, made: io::Result<T>) -> io::Result<T>
+        ensures same { result ≡ made }
+        ensures rose { OnErr result (Rose self.old.failures self.new.failures) }
         ensures later { self.old.failures ≤ self.new.failures }
     {
-        self.failures = self.failures.saturating_add(1);
-        error
+        if made.is_err() {
+            self.failures = self.failures.saturating_add(1);
+        }
+        made
     }
 
     /// Finds what the name leads to, open where it is to be written in place; an error where that was used, or can't be written. Nothing is changed.
@@ -187,95 +190,68 @@ impl<'a, R: Files<File = File>> SaveCalls for HostSave<'a, R> {
     ghost is_state = { λ h. host_is_state h.failures };
 
     fn look(&mut self) -> io::Result<Target> {
-        match self.find_target() {
-            Ok((target, file)) => {
-                self.file = file;
-                Ok(target)
-            }
-            Err(error) => Err(self.counted(error)),
-        }
+        let found = self.find_target();
+        let (target, file) = self.counted(found)?;
+        self.file = file;
+        Ok(target)
     }
 
     fn make(&mut self) -> io::Result<()> {
-        match self.make_at_path() {
-            Ok(file) => {
-                self.file = Some(file);
-                Ok(())
-            }
-            Err(error) => Err(self.counted(error)),
-        }
+        let made = self.make_at_path();
+        self.file = Some(self.counted(made)?);
+        Ok(())
     }
 
     fn check_left(&mut self) -> io::Result<()> {
-        match self.check_left_at_path() {
-            Ok(()) => Ok(()),
-            Err(error) => Err(self.counted(error)),
-        }
+        let made = self.check_left_at_path();
+        self.counted(made)
     }
 
     /// The new file is closed first.
     fn remove(&mut self) -> io::Result<()> {
         self.file = None;
-        match self.remove_at_path() {
-            Ok(()) => Ok(()),
-            Err(error) => Err(self.counted(error)),
-        }
+        let made = self.remove_at_path();
+        self.counted(made)
     }
 
     fn set_mode(&mut self, mode: u32) -> io::Result<()> {
-        match set_mode_of(&self.file, mode) {
-            Ok(()) => Ok(()),
-            Err(error) => Err(self.counted(error)),
-        }
+        let made = set_mode_of(&self.file, mode);
+        self.counted(made)
     }
 
     fn node(&mut self) -> io::Result<Option<Inode>> {
-        match node_of_open(&self.file) {
-            Ok(node) => Ok(node),
-            Err(error) => Err(self.counted(error)),
-        }
+        let made = node_of_open(&self.file);
+        self.counted(made)
     }
 
     fn write(&mut self, bytes: &[u8]) -> io::Result<usize> {
-        match write_to(&mut self.file, bytes) {
-            Ok(count) => Ok(count),
-            Err(error) => Err(self.counted(error)),
-        }
+        let made = write_to(&mut self.file, bytes);
+        self.counted(made)
     }
 
     fn sync(&mut self) -> io::Result<()> {
-        match sync_whole(self.file.take()) {
-            Ok(()) => Ok(()),
-            Err(error) => Err(self.counted(error)),
-        }
+        let made = sync_whole(self.file.take());
+        self.counted(made)
     }
 
     fn check_made(&mut self, made: Option<Inode>) -> io::Result<()> {
-        match self.check_made_at_path(made) {
-            Ok(()) => Ok(()),
-            Err(error) => Err(self.counted(error)),
-        }
+        let made = self.check_made_at_path(made);
+        self.counted(made)
     }
 
     fn rename(&mut self) -> io::Result<()> {
-        match self.rename_from_path() {
-            Ok(()) => Ok(()),
-            Err(error) => Err(self.counted(error)),
-        }
+        let made = self.rename_from_path();
+        self.counted(made)
     }
 
     fn sync_folder(&mut self) -> io::Result<()> {
-        match sync_folder_of(self.rt, self.name) {
-            Ok(()) => Ok(()),
-            Err(error) => Err(self.counted(error)),
-        }
+        let made = sync_folder_of(self.rt, self.name);
+        self.counted(made)
     }
 
     fn save_in_place(&mut self, bytes: &[u8]) -> io::Result<Option<Inode>> {
-        match write_in_place(self.file.take(), bytes) {
-            Ok(node) => Ok(node),
-            Err(error) => Err(self.counted(error)),
-        }
+        let made = write_in_place(self.file.take(), bytes);
+        self.counted(made)
     }
 }
 
