@@ -9,7 +9,6 @@ use Rattle.mig_files.specs.Sights.{on_told, slot_len}
 use Rattle.mig_files.proofs.Derivation.{image_before}
 use Rattle.mig_files.proofs.Headers.{first_has}
 use Rattle.mig_files.proofs.Holding.{bytes_at}
-use Rattle.mig_files.proofs.SeenItems.{Sights}
 use Rattle.mig_store.specs.Grounds.{Holds, IsOtherLast, Lacks}
 use Rattle.mig_store.specs.Grounds as cells
 

@@ -1,7 +1,7 @@
 -- That items are still where they were seen.
 use Rattle.mig_files.proofs.Common.{AreHeld, Bool, Cell, FilesLook, FilesState, FilesWrite, HasBytes, HoldsItem, IfSome, IsFreeFor, IsHeldElsewhere, IsTrue, MayBeEmptied}
 use Rattle.mig_files.proofs.Common.{KeepsSeen, List, LosesNone, LosesNoneBut, None, Some, WhereTold, ap, arith, cell_len, image_of, file_of, header_of, if◌then◌else◌, inl, inr}
-use Rattle.mig_files.proofs.Common.{[], is_slot, length, offset_of, refl, seen_at, slice_index, slice_range, subst, suc, sym, zero, ℕ, ◌+◌, ◌∙◌, ◌≡◌, ◌⊎◌}
+use Rattle.mig_files.proofs.Common.{[], Err, Ok, OnErr, OnOk, Result, is_slot, length, offset_of, refl, seen_at, slice_index, slice_range, subst, suc, sym, zero, ℕ, ◌+◌, ◌∙◌, ◌≡◌, ◌⊎◌}
 use Rattle.mig_base.proofs.CellTests.{cases_cell}
 use Rattle.mig_files.specs.Derived.{cell_bytes, window}
 use Rattle.mig_files.proofs.Apart.{apart}
@@ -60,6 +60,12 @@ held_less {s} {old} {new} slot kept none held = record {
   where
     before : (other : Cell) (item : List ℕ) → seen_at new other ≡ Some item → seen_at old other ≡ Some item
     before other item is = sym (kept other (λ same. none_some (sym none ∙ ap (seen_at new) (sym same) ∙ is))) ∙ is
+
+-- where one of both happened
+pub held_tried : {T E : Type 0} (r : Result T E) {s : FilesState} {old new : Sights} (slot : Cell) (item : List ℕ) → IsTrue (is_slot slot) → WhereTold s slot (HoldsItem s slot item)
+    → KeepsSeen old new slot → OnOk r (seen_at new slot ≡ Some item) → OnErr r (seen_at new slot ≡ None) → AreHeld s old → AreHeld s new
+held_tried (Ok x) slot item slotted holds kept noted none held = held_noted slot item slotted holds kept noted held
+held_tried (Err e) slot item slotted holds kept noted none held = held_less slot kept none held
 
 -- where nothing was seen yet
 pub none_held : {s : FilesState} → AreHeld s []

@@ -125,6 +125,7 @@ pub fn read_cell<C: Calls>(
     requires alive { IsFalse tracked.old.notes.lost }
     requires tracked { IsTracked tracked.old.notes (C.Calls.state calls.old) }
     ensures bytes { OnOk result (IfSome (image_of (C.Calls.state calls.old) cell.now) (λ told. into.new ≡ told)) }
+    ensures found { OnOk result (WhereTold (C.Calls.state calls.old) cell.now (HasBytes ((C.Calls.state calls.old).reads (file_of cell.now)) (offset_of cell.now) (length into.old) into.new)) }
     ensures step { IsStep tracked.new.notes (C.Calls.state calls.old) (C.Calls.state calls.new) }
     ensures cause { OnErr result (Rose (C.Calls.state calls.old).faults (C.Calls.state calls.new).faults) }
 {

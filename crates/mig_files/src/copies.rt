@@ -14,9 +14,9 @@ ghost use Rattle.mig_files.specs.Tracking.{IsTracked, IsStep, StaysAlive};
 ghost use Rattle.mig_store.specs.Grounds.{AreZeros, IsRestOf, SlotsDiffer};
 
 use crate::cells::read_part;
-use crate::slot_header::{is_header, item_of};
+use crate::slot_header::{first_of, is_header, item_of};
 use crate::tracked::{Tracked, refuse_with};
-use crate::writes::{first_of, is_empty};
+use crate::writes::is_empty;
 use mig_base::{Cell, Name};
 use mig_calls::{Calls, Extent, Refusal};
 use mig_store::StoreFailed;

@@ -1,7 +1,8 @@
 //! Which items slots hold, and what is refused so that none is lost.
-ghost use Rattle.std.specs.Prelude.{◌≡◌, ◌≤◌, ◌+◌, Some, IsTrue, IsFalse, IfOk, OnOk, OnErr};
+ghost use Rattle.std.specs.Prelude.{◌≡◌, ◌≤◌, ◌+◌, Some, IsTrue, IsFalse, IfOk, OnOk, OnErr, length};
 ghost use Rattle.mig_base.specs.FaultCounts.{Rose};
 ghost use Rattle.mig_base.specs.Cells.{cell_len, is_slot};
+ghost use Rattle.mig_base.specs.Images.{NoCell};
 ghost use Rattle.mig_calls.specs.Places.{file_of, offset_of};
 ghost use Rattle.mig_calls.specs.Files.{EndsAt, HasBytes, len_of};
 ghost use Rattle.mig_calls.specs.Refusals.{HoldsItem, WhereTold};
@@ -9,12 +10,12 @@ ghost use Rattle.mig_files.specs.Derived.{image_of};
 ghost use Rattle.mig_files.specs.Grounds.{IsFaultFor, IsLastBut};
 ghost use Rattle.mig_files.specs.Seeing.{seen_at, seen_in, AreHeld, KeepsSeen, MayBeEmptied, IsFreeFor};
 ghost use Rattle.mig_files.specs.Tracking.{IsTracked, IsStep, StaysAlive, StaysSame};
-ghost use Rattle.mig_store.specs.Grounds.{IsElsewhere, IsLast, Lacks};
+ghost use Rattle.mig_store.specs.Grounds.{IsElsewhere, IsLast, Lacks, Remembers};
 
 use crate::cells::{open_place, read_part};
 use crate::places::{end_of, place_of};
 use crate::seen::SeenItems;
-use crate::slot_header::{HEADER, is_header, item_of};
+use crate::slot_header::{HEADER, first_of, is_header, item_of};
 use crate::tracked::{Tracked, no_memory, refuse_with};
 use crate::tries::read_found;
 use mig_base::{Cell, Name};
@@ -73,6 +74,26 @@ pub fn note_seen<C: Calls>(
         Err(_) => {
             let (place, _) = place_of(slot);
             Err(no_memory(calls, tracked, &place))
+        }
+    }
+}
+
+/// Notes which item a slot holds that was read, where none was seen there. Want of memory leaves it unseen.
+pub fn note_read<C: Calls>(calls: &C, seen: &mut SeenItems, cell: &Cell, bytes: &[u8])
+    requires length { length bytes.now ≡ cell_len cell.now }
+    requires found { WhereTold (C.Calls.state calls.now) cell.now (HasBytes ((C.Calls.state calls.now).reads (file_of cell.now)) (offset_of cell.now) (length bytes.now) bytes.now) }
+    requires held { AreHeld (C.Calls.state calls.now) seen.old }
+    ensures others { KeepsSeen seen.old seen.new cell.now }
+    ensures seen { Remembers NoCell (seen_in seen.old) (seen_in seen.new) }
+    ensures held { AreHeld (C.Calls.state calls.now) seen.new }
+{
+    match (cell, seen.at(cell)) {
+        (Cell::Slot { .. }, None) => {}
+        _ => return,
+    }
+    if let Some(item) = item_of(&first_of(bytes)) {
+        match seen.note(&item, cell) {
+            Ok(()) | Err(_) => {}
         }
     }
 }

@@ -111,6 +111,13 @@ impl SeenItems {
         }
     }
 
+    /// The item that was seen at a slot.
+    pub fn at(&self, slot: &Cell) -> Option<Name>
+        ensures { result ≡ seen_at self.now slot.now }
+    {
+        item_at(&self.slots, slot)
+    }
+
     /// Notes that a slot holds an item. An error is want of memory.
     pub fn note(&mut self, item: &Name, slot: &Cell) -> Result<(), AllocError>
         ensures noted { OnOk result (seen_at self.new slot.now ≡ Some item.now) }

@@ -1,5 +1,5 @@
 //! The first bytes of a slot, which say which item it holds.
-ghost use Rattle.std.specs.Prelude.{◌≡◌, ◌≢◌, Some, ℕ, List, IfSome, IfNone, MatchBool, length};
+ghost use Rattle.std.specs.Prelude.{◌≡◌, ◌≢◌, ◌≤◌, Some, ℕ, List, IfSome, IfNone, MatchBool, length, slice_range};
 ghost use Rattle.mig_base.specs.Naming.{IsName};
 ghost use Rattle.mig_base.specs.Slots.{header_of};
 
@@ -46,4 +46,15 @@ pub fn item_of(first: &[u8; 34]) -> Option<Name>
         }
         None => None,
     }
+}
+
+/// The first bytes of a slot.
+pub fn first_of(bytes: &[u8]) -> [u8; 34]
+    requires { 34 ≤ length bytes.now }
+    ensures first { result ≡ slice_range bytes.now 0 34 }
+    ensures len { length result ≡ 34 }
+{
+    let mut first = [0; 34];
+    first.copy_from_slice(&bytes[..34]);
+    first
 }

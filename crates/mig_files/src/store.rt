@@ -26,6 +26,8 @@ pub struct FileStore<C: Calls> {
     calls: C,
     tracked: Tracked,
     seen: SeenItems,
+    /// Nothing was written so far: a slot that was read needs no second look.
+    fresh: bool,
     ghost tracks: { IsTracked tracked.notes (C.Calls.state calls) },
     ghost held: { AreHeld (C.Calls.state calls) seen },
 }
@@ -61,6 +63,7 @@ impl<C: Calls + Drop> FileStore<C> {
                 most: MOST_OPEN,
             },
             seen: SeenItems::new(alloc),
+            fresh: true,
         })
     }
 }
@@ -74,6 +77,7 @@ impl<C: Calls> FileStore<C> {
             calls,
             tracked: _tracked,
             seen: _seen,
+            fresh: _,
         } = self;
         calls
     }

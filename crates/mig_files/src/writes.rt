@@ -19,7 +19,7 @@ use crate::cells::{read_part, write_cell};
 use crate::items::{expects_free, expects_free_for, note_held, note_seen};
 use crate::places::place_of;
 use crate::seen::SeenItems;
-use crate::slot_header::item_of;
+use crate::slot_header::{first_of, item_of};
 use crate::tracked::{Tracked, claim, refuse_with};
 use mig_base::{Cell, Name};
 use mig_calls::{Calls, Refusal};
@@ -100,17 +100,6 @@ fn empty<C: Calls>(
         return Ok(());
     }
     write_cell(calls, tracked, slot, zeros)
-}
-
-/// The first bytes of a slot.
-pub fn first_of(bytes: &[u8]) -> [u8; 34]
-    requires { 34 ≤ length bytes.now }
-    ensures first { result ≡ slice_range bytes.now 0 34 }
-    ensures len { length result ≡ 34 }
-{
-    let mut first = [0; 34];
-    first.copy_from_slice(&bytes[..34]);
-    first
 }
 
 /// Reads a slot that is to be copied, and answers which item it holds. One that holds none is refused.

@@ -15,7 +15,7 @@ ghost use Rattle.mig_store.specs.Grounds.{HasGround, IsErasure, IsLast, IsSeenAt
 
 use crate::cells::read_cell;
 use crate::copies::expects_copy;
-use crate::items::{expects, expects_free};
+use crate::items::{expects, expects_free, note_read};
 use crate::store::FileStore;
 use crate::syncs::sync_cells;
 use crate::tracked::refuse_with;
@@ -43,7 +43,7 @@ impl<C: Calls> Store for FileStore<C> {
     fn read(&mut self, cell: &Cell, into: &mut [u8]) -> Result<(), StoreFailed>
         requires { length into.old ≡ cell_len cell.now }
         ensures bytes { OnOk result (¬ IsMoving (⟦<FileStore<C> as Store>⟧.state self.old) cell.now → IfSome ((⟦<FileStore<C> as Store>⟧.state self.old).reads cell.now) (λ bytes. into.new ≡ bytes)) }
-        ensures kept { seen_of self.new ≡ seen_of self.old }
+        ensures kept { KeepsSeen (seen_of self.old) (seen_of self.new) cell.now }
         ensures seen { Remembers NoCell (seen_in (seen_of self.old)) (seen_in (seen_of self.new)) }
         ensures change { Looks (⟦<FileStore<C> as Store>⟧.state self.old) (⟦<FileStore<C> as Store>⟧.state self.new) }
         ensures cause { HasCause (⟦<FileStore<C> as Store>⟧.state self.old) (⟦<FileStore<C> as Store>⟧.state self.new) result }
@@ -53,10 +53,14 @@ impl<C: Calls> Store for FileStore<C> {
         if self.tracked.notes.lost {
             return Err(refuse_with(&mut self.calls, &self.tracked, &Refusal::AfterSync));
         }
-        read_cell(&mut self.calls, &mut self.tracked, cell, into)
+        read_cell(&mut self.calls, &mut self.tracked, cell, into)?;
+        if self.fresh {
+            note_read(&self.calls, &mut self.seen, cell, into);
+        }
+        Ok(())
     }
 
-    /// Refuses a slot that doesn't hold the whole of the item.
+    /// Refuses a slot that doesn't hold the whole of the item. One that was read before anything was written isn't looked at again.
     fn expects(&mut self, slot: &Cell, name: &Name) -> Result<(), StoreFailed>
         requires slot { IsTrue (is_slot slot.now) }
         ensures held { OnOk result (WhereTold (calls_state self.old) slot.now (HoldsItem (calls_state self.old) slot.now name.now)) }
@@ -71,6 +75,9 @@ impl<C: Calls> Store for FileStore<C> {
     {
         if self.tracked.notes.lost {
             return Err(refuse_with(&mut self.calls, &self.tracked, &Refusal::AfterSync));
+        }
+        if self.fresh && self.seen.at(slot) == Some(*name) {
+            return Ok(());
         }
         expects(
             &mut self.calls,
@@ -139,6 +146,7 @@ impl<C: Calls> Store for FileStore<C> {
         if self.tracked.notes.lost {
             return Err(refuse_with(&mut self.calls, &self.tracked, &Refusal::AfterSync));
         }
+        self.fresh = false;
         write_item(
             &mut self.calls,
             &mut self.tracked,
@@ -170,6 +178,7 @@ impl<C: Calls> Store for FileStore<C> {
         if self.tracked.notes.lost {
             return Err(refuse_with(&mut self.calls, &self.tracked, &Refusal::AfterSync));
         }
+        self.fresh = false;
         copy_item(&mut self.calls, &mut self.tracked, &mut self.seen, from, to)
     }
 
