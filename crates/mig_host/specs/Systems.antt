@@ -1,5 +1,5 @@
 -- What a process sees of the system while other processes act, and what of it lasts.
-use Rattle.std.specs.Prelude.{◌≡◌, ◌⊎◌, ◌≤◌, ◌++◌, ℕ, Bool, IsTrue, List, codes, ⊤}
+use Rattle.std.specs.Prelude.{◌≡◌, ◌⊎◌, ◌≤◌, ◌++◌, ℕ, Bool, IfSome, IsTrue, List, codes, slice_get, ⊤}
 use Rattle.std.specs.declared.io.ErrorKind.{ErrorKind}
 use Rattle.std.specs.declared.io.ErrorKind.TheVariants.{NotFound, NotADirectory}
 use Rattle.mig_host.specs.declared.system.Kind.{Kind}
@@ -92,3 +92,7 @@ disk_path name = name ++ codes ".disk"
 -- that of the note that a sync failed
 abbrev pub note_path : List ℕ
 note_path = codes "unsynced.mig"
+
+-- each of these disks was found under its name between old and new, still this file
+abbrev pub AreNamed : SystemState → SystemState → List (List ℕ × FileIdentity) → Type 0
+AreNamed old new files = (k : ℕ) → IfSome (slice_get files k) (λ e. Finds old new (Led (disk_path e.0) e.1))

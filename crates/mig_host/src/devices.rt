@@ -32,10 +32,10 @@ pub struct Device {
 pub fn find_device<S: System>(sys: &S, number: u64) -> io::Result<Device> {
     let (major, minor) = major_and_minor(number);
     let folder = format!(in sys.alloc(); "/sys/dev/block/{major}:{minor}")?;
-    match look_up(sys, folder.as_str()) {
-        Ok(device) => Ok(device),
-        Err(error) => Err(unless_told(error, "what the system tells of the device can't be read")),
-    }
+    look_up(sys, folder.as_str()).map_err(|error| unless_told(
+        error,
+        "what the system tells of the device can't be read",
+    ))
 }
 
 fn look_up<S: System>(sys: &S, folder: &str) -> io::Result<Device> {

@@ -1,9 +1,9 @@
 //! The disks' files.
-ghost use Rattle.std.specs.Prelude.{◌≡◌, ◌⊎◌, ◌≤◌, ◌<◌, IsTrue, IfOk, IfSome, OnOk, length};
-ghost use Rattle.mig_host.specs.Systems.{Finds, Goes, IsOwn, Led, disk_path};
+ghost use Rattle.std.specs.Prelude.{◌≡◌, ◌⊎◌, ◌≤◌, ◌<◌, IsTrue, IsFalse, IfOk, IfSome, OnOk, length};
+ghost use Rattle.mig_host.specs.Systems.{AreNamed, Finds, Goes, IsOwn, Led, disk_path};
 
 use crate::failures::{Failure, too_many_open};
-use crate::identity::{check_name, exchanged};
+use crate::identity::{check_name, exchanged, is_link};
 use crate::journal::Journal;
 use crate::opened::{Opened, open_again, open_to_read, open_to_write, take};
 use crate::system::{Access, FileIdentity, System};
@@ -27,11 +27,11 @@ pub struct Disks<S: System> {
     owners: IndexMap<FileIdentity, (Name, bool)>,
     /// A disk was written since the journal was.
     written: bool,
-    /// The files of the disks that were closed since it was looked whether they have their names still, and of those that were written.
-    closed: IndexMap<Name, FileIdentity>,
-    unlooked: IndexMap<Name, FileIdentity>,
-    /// The number of the next look at these, from 1 on.
-    looks: u64,
+    /// The files of the disks that were synced since it was last looked, after a write of the journal, whether they have their names still: those whose names are links, and the others.
+    linked: IndexMap<Name, FileIdentity>,
+    synced: IndexMap<Name, FileIdentity>,
+    /// When the folder had changed, as was seen before the journal was written.
+    changed: Option<(i64, i64)>,
     /// The permissions of the first file that was opened: new ones get the same.
     mode: Option<u32>,
 }
@@ -46,9 +46,9 @@ impl<S: System> Disks<S> {
             known: IndexMap::new(alloc),
             owners: IndexMap::new(alloc),
             written: false,
-            closed: IndexMap::new(alloc),
-            unlooked: IndexMap::new(alloc),
-            looks: 1,
+            linked: IndexMap::new(alloc),
+            synced: IndexMap::new(alloc),
+            changed: None,
             mode: None,
         }
     }
@@ -106,10 +106,14 @@ impl<S: System> Disks<S> {
     ) -> Result<Written, Failure>
         ensures count { IfOk result (λ written. written.count ≤ length bytes.now) }
         ensures some { IfOk result (λ written. 0 < length bytes.now → 0 < written.count) }
+        ensures linked { OnOk result (IsFalse self.old.written → AreNamed (S.System.state sys.old) (S.System.state sys.new) self.old.linked.entries) }
+        ensures synced { OnOk result (IsFalse self.old.written → AreNamed (S.System.state sys.old) (S.System.state sys.new) self.old.synced.entries) }
     {
         if !self.written {
-            look_at_each(sys, &mut self.unlooked)?;
-            self.looks = self.looks.saturating_add(1);
+            check_names(sys, &self.linked)?;
+            check_names(sys, &self.synced)?;
+            self.linked.clear();
+            self.synced.clear();
         }
         let made = self.open_for_writing(sys, journal, name)?;
         self.written = true;
@@ -119,21 +123,28 @@ impl<S: System> Disks<S> {
         let Some(opened) = self.open.get_index_mut(place) else {
             return Err(Failure::memory(*name));
         };
-        if opened.look != self.looks && self.unlooked.insert(*name, opened.node).is_err() {
-            return Err(Failure::memory(*name));
-        }
-        opened.look = self.looks;
         match opened.write_at(sys, offset, bytes) {
             Ok(count) => Ok(Written { count, made }),
             Err(error) => Err(Failure::OfDisk(*name, error)),
         }
     }
 
-    /// Brings all that was written to a disk's file to the device, where the file is there. One that lost its name meanwhile is refused.
+    /// Brings all that was written to a disk's file to the device, where the file is there.
     pub fn sync(&mut self, sys: &mut S, journal: &Journal<S>, name: &Name) -> Result<(), Failure> {
-        match self.to_read(sys, journal, name)? {
-            Some(opened) => sync_named(sys, name, opened),
-            None => Ok(()),
+        let Some(opened) = self.to_read(sys, journal, name)? else {
+            return Ok(());
+        };
+        opened
+            .sync(sys)
+            .map_err(|error| Failure::OfSync(Some(Place::Disk(*name)), error))?;
+        let (node, linked) = (opened.node, opened.linked);
+        let files = match linked {
+            true => &mut self.linked,
+            false => &mut self.synced,
+        };
+        match files.insert(*name, node) {
+            Ok(_) => Ok(()),
+            Err(_) => Err(Failure::memory(*name)),
         }
     }
 
@@ -144,23 +155,31 @@ impl<S: System> Disks<S> {
         self.written
     }
 
-    /// Looks whether those that were closed meanwhile have them. Each of the others was looked at as it was synced.
-    pub fn check_closed(&mut self, sys: &mut S) -> Result<(), Failure>
+    /// Looks whether the disks that were synced have their names still: those that are no links where the folder has changed since the journal was written.
+    pub fn check_unchanged(&mut self, sys: &mut S, folder: &Option<S::File>) -> Result<(), Failure>
         ensures { Goes (S.System.state sys.old) (S.System.state sys.new) }
     {
-        look_at_each(sys, &mut self.closed)?;
+        check_names(sys, &self.linked)?;
+        if self.has_changed(sys, folder)? {
+            check_names(sys, &self.synced)?;
+        }
         self.written = false;
         Ok(())
     }
 
-    /// Closes a disk's file. Where memory is refused it stays open.
-    pub fn close(&mut self, name: &Name) {
-        let Some(opened) = self.open.get(name) else {
-            return;
+    /// Whether the folder has changed since this was last asked.
+    fn has_changed(&mut self, sys: &S, folder: &Option<S::File>) -> Result<bool, Failure> {
+        let Some(folder) = folder else {
+            return Ok(true);
         };
-        if self.closed.insert(*name, opened.node).is_ok() {
-            let _ = self.open.swap_remove(name);
-        }
+        let found = sys.fstat(folder).map_err(Failure::OfFolder)?;
+        let before = self.changed.replace(found.changed);
+        Ok(before != Some(found.changed))
+    }
+
+    /// Closes a disk's file.
+    pub fn close(&mut self, name: &Name) {
+        let _ = self.open.swap_remove(name);
     }
 
     /// The disk's file, opened where it isn't, if it is there. Once this process has claimed the journal it locks a file before it looks at it: what is seen there stays until this process writes over it.
@@ -211,7 +230,9 @@ impl<S: System> Disks<S> {
         name: &Name,
         opened: Opened<S>,
         made: bool,
-    ) -> Result<(), Failure> {
+    ) -> Result<(), Failure>
+        ensures goes { Goes (S.System.state sys.old) (S.System.state sys.new) }
+    {
         let mut opened = opened;
         match take_disk(sys, name, &mut opened, self.mode.filter(|_| made)) {
             Ok(()) => self.keep(name, opened),
@@ -271,7 +292,9 @@ impl<S: System> Disks<S> {
         sys: &mut S,
         journal: &Journal<S>,
         name: &Name,
-    ) -> Result<bool, Failure> {
+    ) -> Result<bool, Failure>
+        ensures goes { Goes (S.System.state sys.old) (S.System.state sys.new) }
+    {
         if let Some(place) = self.find(name) {
             let found = self.open.get_index(place);
             if found.is_some_and(|(_, opened)| opened.is_taken()) {
@@ -293,19 +316,28 @@ impl<S: System> Disks<S> {
     fn find_to_read(&self, sys: &mut S, name: &Name) -> io::Result<Option<Opened<S>>> {
         self.check_spare(sys, name)?;
         let path = path_of(sys.alloc(), name)?;
-        match self.known.get(name) {
-            Some(node) => Ok(Some(open_again(sys, path.as_str(), *node, Access::Read)?)),
-            None => open_to_read(sys, path.as_str()),
-        }
+        let found = match self.known.get(name) {
+            Some(node) => Some(open_again(sys, path.as_str(), *node, Access::Read)?),
+            None => open_to_read(sys, path.as_str())?,
+        };
+        let Some(mut opened) = found else {
+            return Ok(None);
+        };
+        opened.linked = is_link(sys, path.as_str())?;
+        Ok(Some(opened))
     }
 
-    fn find_to_write(&self, sys: &mut S, name: &Name) -> io::Result<(Opened<S>, bool)> {
+    fn find_to_write(&self, sys: &mut S, name: &Name) -> io::Result<(Opened<S>, bool)>
+        ensures goes { Goes (S.System.state sys.old) (S.System.state sys.new) }
+    {
         self.check_spare(sys, name)?;
         let path = path_of(sys.alloc(), name)?;
-        match self.known.get(name) {
-            Some(node) => Ok((open_again(sys, path.as_str(), *node, Access::Both)?, false)),
-            None => open_to_write(sys, path.as_str()),
-        }
+        let (mut opened, made) = match self.known.get(name) {
+            Some(node) => (open_again(sys, path.as_str(), *node, Access::Both)?, false),
+            None => open_to_write(sys, path.as_str())?,
+        };
+        opened.linked = is_link(sys, path.as_str())?;
+        Ok((opened, made))
     }
 
     /// Two descriptors stay free for another part of the process, where another disk's file is open that could be closed.
@@ -362,17 +394,16 @@ impl<S: System> Disks<S> {
     }
 }
 
-/// Looks whether these disks have their names still, and forgets them.
-fn look_at_each<S: System>(
-    sys: &mut S,
-    files: &mut IndexMap<Name, FileIdentity>,
-) -> Result<(), Failure>
-    ensures { Goes (S.System.state sys.old) (S.System.state sys.new) }
+/// Refuses where one of these disks hasn't its name still.
+fn check_names<S: System>(sys: &mut S, files: &IndexMap<Name, FileIdentity>) -> Result<(), Failure>
+    ensures named { OnOk result (AreNamed (S.System.state sys.old) (S.System.state sys.new) files.now.entries) }
+    ensures goes { Goes (S.System.state sys.old) (S.System.state sys.new) }
 {
-    for (name, node) in files.iter() {
-        check_named(sys, name, *node)?;
+    'each: for k in 0..files.len() {
+        if let Some((name, node)) = files.get_index(k) {
+            check_named(sys, name, *node)?;
+        }
     }
-    files.clear();
     Ok(())
 }
 
@@ -392,17 +423,6 @@ fn take_disk<S: System>(
     match mode {
         Some(mode) => opened.set_mode(sys, mode),
         None => Ok(()),
-    }
-}
-
-/// Brings all that was written to a disk's file to the device, and refuses one whose name leads to another by then.
-fn sync_named<S: System>(sys: &mut S, name: &Name, opened: &Opened<S>) -> Result<(), Failure>
-    ensures led { OnOk result (Finds (S.System.state sys.old) (S.System.state sys.new) (Led (disk_path name.now) opened.now.node)) }
-    ensures goes { Goes (S.System.state sys.old) (S.System.state sys.new) }
-{
-    match opened.sync(sys) {
-        Ok(()) => check_named(sys, name, opened.node),
-        Err(error) => Err(Failure::OfSync(Some(Place::Disk(*name)), error)),
     }
 }
 

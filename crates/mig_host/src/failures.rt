@@ -47,10 +47,7 @@ impl Failure {
 
     /// Whether it came of this kind.
     fn is_of(&self, kind: ErrorKind) -> bool {
-        match self.error() {
-            Some(error) => error.kind() == kind,
-            None => false,
-        }
+        self.error().is_some_and(|error| error.kind() == kind)
     }
 
     /// Whether a file isn't there.
@@ -65,10 +62,8 @@ impl Failure {
 
     /// Whether too many files are open.
     pub fn is_full(&self) -> bool {
-        match self.error() {
-            Some(error) => error.raw_os_error() == Some(TOO_MANY_OPEN),
-            None => false,
-        }
+        self.error()
+            .is_some_and(|error| error.raw_os_error() == Some(TOO_MANY_OPEN))
     }
 }
 

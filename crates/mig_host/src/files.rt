@@ -33,11 +33,12 @@ fn open_folder<S: System>(sys: &mut S, folder: &mut Option<S::File>) -> Result<(
     Ok(())
 }
 
-/// Writes some of the bytes to the journal. Where disks were written since, it looks first whether the journal, and each disk that was closed, is under its name still.
+/// Writes some of the bytes to the journal. Where disks were written since, it looks first whether the journal is under its name still, and, where the folder has changed, whether each disk is.
 pub fn write_journal<S: System>(
     sys: &mut S,
     disks: &mut Disks<S>,
     journal: &mut Journal<S>,
+    folder: &Option<S::File>,
     offset: u64,
     bytes: &[u8],
 ) -> Result<Written, Failure>
@@ -48,7 +49,7 @@ pub fn write_journal<S: System>(
 {
     if disks.has_written() {
         journal.look_again(sys)?;
-        disks.check_closed(sys)?;
+        disks.check_unchanged(sys, folder)?;
     }
     journal.write_at(sys, offset, bytes)
 }

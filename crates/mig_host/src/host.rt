@@ -1,5 +1,5 @@
 //! The calls on the files of the working folder.
-ghost use Rattle.std.specs.Prelude.{◌≡◌, ◌≤◌, IsTrue};
+ghost use Rattle.std.specs.Prelude.{◌≡◌, ◌≤◌, IsTrue, Ok};
 ghost use Rattle.mig_calls.specs.declared.places.Place.{Place as Places};
 ghost use Rattle.mig_calls.specs.Files.{HasCallCause, IsCallCause, StaysUsable};
 ghost use Rattle.mig_host.specs.Untold.{untold_state, host_is_state};
@@ -89,6 +89,7 @@ impl<S: System> SystemCalls<S> {
         ensures refused { self.new.refused ≡ self.old.refused }
         ensures cause { HasCallCause (untold_state self.old.faults self.old.refused self.old.unmade self.old.usable) (untold_state self.new.faults self.new.refused self.new.unmade self.new.usable) result }
         ensures usable { self.new.usable ≡ self.old.usable }
+        ensures given { (given : T) → result ≡ Ok given → made ≡ Ok given }
     {
         match made {
             Ok(given) => Ok(given),
@@ -132,10 +133,7 @@ impl<S: System> Calls for SystemCalls<S> {
             Place::Disk(name) => self.disks.read_at(sys, &self.journal, name, offset, into),
             Place::Journal => self.journal.read_at(sys, offset, into),
         };
-        match read {
-            Ok(count) => Ok(count),
-            Err(failure) => Err(self.counted(failure)),
-        }
+        self.answer(read)
     }
 
     fn len(&mut self, place: &Place) -> Result<Extent, CallError> {
@@ -150,12 +148,12 @@ impl<S: System> Calls for SystemCalls<S> {
         let sys = &mut self.sys;
         let made = match place {
             Place::Disk(name) => self.disks.write_at(sys, &self.journal, name, offset, bytes),
-            Place::Journal => write_journal(sys, &mut self.disks, &mut self.journal, offset, bytes),
+            Place::Journal => {
+                let (disks, journal) = (&mut self.disks, &mut self.journal);
+                write_journal(sys, disks, journal, &self.folder, offset, bytes)
+            }
         };
-        match made {
-            Ok(written) => Ok(written),
-            Err(failure) => Err(self.counted(failure)),
-        }
+        self.answer(made)
     }
 
     fn sync(&mut self, place: &Place) -> Result<(), CallError> {

@@ -73,6 +73,7 @@ fn stat_of(found: &Metadata) -> Stat {
         number: found.rdev(),
         mode: found.mode(),
         len: found.len(),
+        changed: (found.ctime(), found.ctime_nsec()),
     }
 }
 

@@ -73,6 +73,13 @@ pub fn check_name<S: System>(sys: &mut S, path: &str, node: FileIdentity) -> io:
     }
 }
 
+/// Whether a link stands at a path.
+pub fn is_link<S: System>(sys: &mut S, path: &str) -> io::Result<bool>
+    ensures { Goes (S.System.state sys.old) (S.System.state sys.new) }
+{
+    Ok(sys.lstat(path)?.kind == Kind::Link)
+}
+
 /// Another file has the name than the one that was looked at.
 pub fn exchanged() -> Error {
     Error::other("another process made or exchanged it meanwhile")

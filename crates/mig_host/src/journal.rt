@@ -105,12 +105,12 @@ impl<S: System> Journal<S> {
         ensures some { IfOk result (λ written. 0 < length bytes.now → 0 < written.count) }
         ensures goes { Goes (S.System.state sys.old) (S.System.state sys.new) }
     {
-        match &mut self.opened {
-            Some(opened) => match opened.write_at(sys, offset, bytes) {
-                Ok(count) => Ok(Written { count, made: false }),
-                Err(error) => Err(Failure::OfJournal(error)),
-            },
-            None => Err(Failure::OfJournal(Error::other("it is not open"))),
+        let Some(opened) = &mut self.opened else {
+            return Err(Failure::OfJournal(Error::other("it is not open")));
+        };
+        match opened.write_at(sys, offset, bytes) {
+            Ok(count) => Ok(Written { count, made: false }),
+            Err(error) => Err(Failure::OfJournal(error)),
         }
     }
 

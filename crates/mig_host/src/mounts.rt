@@ -4,8 +4,6 @@ use crate::tables::{number_of, text_at};
 use std::alloc::{AllocError, Global};
 use std::io::{self, Error};
 
-const MOUNTS: &str = "/proc/self/mountinfo";
-
 /// What a line of the table tells.
 #[derive(Clone, Copy)]
 struct Mount<'a> {
@@ -28,7 +26,7 @@ fn mount_of(line: &str) -> Option<Mount<'_>> {
 
 /// Refuses devices of which one is mounted, and a node that isn't one of the system's own table of devices, which has the number `table`.
 pub fn check_mounts<S: System>(sys: &S, numbers: &[u64], table: u64) -> io::Result<()> {
-    let text = text_at(sys, MOUNTS)?;
+    let text = text_at(sys, "/proc/self/mountinfo")?;
     check_lines(sys, text.as_str(), numbers, table)
 }
 

@@ -24,8 +24,8 @@ pub struct Opened<S: System> {
     pub parts: Vec<DevicePart>,
     /// Its permissions.
     pub mode: u32,
-    /// The look at the disk's name that comes after its last write; 0 before one.
-    pub look: u64,
+    /// A link stands under its name.
+    pub linked: bool,
     /// How many bytes it has.
     len: u64,
 }
@@ -50,10 +50,7 @@ fn open_if_there<S: System>(sys: &mut S, path: &str) -> io::Result<Option<Opened
     ensures goes { Goes (S.System.state sys.old) (S.System.state sys.new) }
 {
     match sys.open(path, Access::Read) {
-        Ok(file) => match look_at(sys, file) {
-            Ok(opened) => Ok(Some(opened)),
-            Err(error) => Err(error),
-        },
+        Ok(file) => Ok(Some(look_at(sys, file)?)),
         Err(error) if error.kind() == ErrorKind::NotFound => Ok(None),
         Err(error) => Err(error),
     }
@@ -172,7 +169,7 @@ fn look_at<S: System>(sys: &S, file: S::File) -> io::Result<Opened<S>>
         node,
         parts,
         mode: stat.mode & 0o777,
-        look: 0,
+        linked: false,
         len,
     })
 }

@@ -37,6 +37,8 @@ pub struct Stat {
     pub number: u64,
     pub mode: u32,
     pub len: u64,
+    /// When it was changed, or a name in it: seconds and nanoseconds.
+    pub changed: (i64, i64),
 }
 
 impl Stat {

@@ -110,10 +110,13 @@ fn after_a_sync_that_failed_in_this_process(rt: HostRuntime) {
     let mut calls = SystemCalls::new(HostSystem::new(&rt, rt.alloc()));
     assert!(rt; calls.claim().is_ok());
     assert!(rt; writes(&mut calls, &disk_of(b"a"), 0, b"x", true));
-    // its name leads to no file then, which no note tells
+    // its name leads to no file then, which is seen before the journal is written
     assert!(rt; fs::rename(&rt, "a.disk", "kept").is_ok());
-    assert!(rt; calls.sync(&disk_of(b"a")) == Err(CallError::Failed));
-    assert!(rt; fs::rename(&rt, "kept", "a.disk").is_ok());
+    assert!(rt; calls.sync(&disk_of(b"a")).is_ok());
+    assert!(rt; calls.write_at(&Place::Journal, 0, b"x").is_err());
+    // a folder is no disk, which no note tells
+    assert!(rt; fs::create_dir(&rt, "b.disk").is_ok());
+    assert!(rt; calls.sync(&disk_of(b"b")) == Err(CallError::Failed));
     assert!(rt; fs::exists(&rt, "unsynced.mig").is_ok_and(|is| !is));
     assert!(rt; calls.claim() == Err(CallError::Failed));
     leave(&rt, "exchanged").expect(&rt, "a folder");

@@ -88,6 +88,7 @@ fn stat_of(number: usize) -> Stat {
         number: 0x801,
         mode: 0o644,
         len: 4096,
+        changed: (1, 0),
     }
 }
 
