@@ -22,6 +22,7 @@ use std::alloc::{AllocError, Global};
 use std::marker::Model;
 
 /// Files in memory, which tell all: what reads give, and what a crash may leave. Calls fail where they are told to.
+#[derive(Drop)]
 pub struct MemCalls {
     alloc: Global,
     disk: MemDisk,
@@ -34,23 +35,6 @@ pub struct MemCalls {
     unmade: u64,
     claimed: bool,
     usable: bool,
-}
-
-impl Drop for MemCalls {
-    fn drop(self) {
-        let MemCalls {
-            alloc: _,
-            disk: _disk,
-            opened: _opened,
-            trouble: _trouble,
-            number: _,
-            faults: _,
-            refused: _,
-            unmade: _,
-            claimed: _,
-            usable: _,
-        } = self;
-    }
 }
 
 impl Model for MemCalls {

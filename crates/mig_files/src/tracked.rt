@@ -30,6 +30,7 @@ pub struct Notes {
 }
 
 /// What the store notes of its files, and which are open.
+#[derive(Drop)]
 pub struct Tracked {
     pub notes: Notes,
     /// The disks whose files this process has looked at.
@@ -38,17 +39,6 @@ pub struct Tracked {
     pub open: LruCache<Name, ()>,
     /// How many may be open.
     pub most: usize,
-}
-
-impl Drop for Tracked {
-    fn drop(self) {
-        let Tracked {
-            notes: _notes,
-            met: _met,
-            open: _open,
-            most: _,
-        } = self;
-    }
 }
 
 /// Refuses, which changes nothing that is noted.

@@ -69,18 +69,14 @@ pub(crate) fn say_cause(
             write!(f, "at most {MAX_DISKS} disks are planned at once")
         }
         (Why::TooManyRows, _) => write!(f, "at most {MAX_ITEMS} items are planned at once"),
-        (Why::NotInNow, _) => {
-            write!(
-                f,
-                "{now} does not list this item: list there where it is, or remove this line"
-            )
-        }
-        (Why::NotInNext, _) => {
-            write!(
-                f,
-                "{next} does not list this item: list there the disk where it is to be, the same one where it stays"
-            )
-        }
+        (Why::NotInNow, _) => write!(
+            f,
+            "{now} does not list this item: list there where it is, or remove this line"
+        ),
+        (Why::NotInNext, _) => write!(
+            f,
+            "{next} does not list this item: list there the disk where it is to be, the same one where it stays"
+        ),
         (Why::NoRoom { needs, slots, .. }, _) => say_room(f, given, *needs, *slots),
         _ => Ok(()),
     }

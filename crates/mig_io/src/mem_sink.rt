@@ -5,24 +5,13 @@ use std::alloc::{AllocError, Global};
 use std::marker::Model;
 
 /// A sink in memory with room for so many bytes, which fails at the puts that it is told.
+#[derive(Drop)]
 pub struct MemSink {
     held: Vec<u8>,
     room: usize,
     failing: Vec<u64>,
     puts: u64,
     faults: u64,
-}
-
-impl Drop for MemSink {
-    fn drop(self) {
-        let MemSink {
-            held: _held,
-            room: _,
-            failing: _failing,
-            puts: _,
-            faults: _,
-        } = self;
-    }
 }
 
 impl Model for MemSink {

@@ -7,24 +7,13 @@ use std::alloc::{AllocError, Global};
 use std::marker::Model;
 
 /// A folder in memory, which fails at the calls that it is told.
+#[derive(Drop)]
 pub struct MemFolder {
     alloc: Global,
     places: Vec<FolderEntry>,
     failing: Vec<u64>,
     calls: u64,
     faults: u64,
-}
-
-impl Drop for MemFolder {
-    fn drop(self) {
-        let MemFolder {
-            alloc: _,
-            places: _places,
-            failing: _failing,
-            calls: _,
-            faults: _,
-        } = self;
-    }
 }
 
 impl Model for MemFolder {

@@ -39,15 +39,9 @@ impl From<AllocError> for ScriptError {
 }
 
 /// Orders, one after the other.
-#[derive(Debug)]
+#[derive(Debug, Drop)]
 pub struct Script {
     orders: Vec<Order>,
-}
-
-impl Drop for Script {
-    fn drop(self) {
-        let Script { orders: _orders } = self;
-    }
 }
 
 impl Model for Script {

@@ -28,20 +28,11 @@ use std::alloc::{AllocError, Global};
 use std::marker::Model;
 
 /// A store in memory, which fails at the calls that it is told, and tells its cells, its images and its events.
+#[derive(Drop)]
 pub struct MemStore {
     ledger: Ledger,
     landing: Landing,
     trouble: Trouble,
-}
-
-impl Drop for MemStore {
-    fn drop(self) {
-        let MemStore {
-            ledger: _ledger,
-            landing: _,
-            trouble: _trouble,
-        } = self;
-    }
 }
 
 impl Model for MemStore {
