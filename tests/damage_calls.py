@@ -1,7 +1,7 @@
 """What tests/damage does in the midst of a run, at a call that it picks (calls.c): files and folders that are exchanged, calls that are
 interrupted or fail, and locks that keep nobody out. It needs a C compiler; where there is none a line says so, and nothing is counted."""
 import collections, contextlib, errno, itertools, os, resource, shlex, shutil, subprocess, tempfile
-from session_cells import put_half_way, stores
+from session_cells import cell, put_half_way, stores
 from session_inputs import DISKS, FILES, PLAN_TEXT, put
 from session_rooms import Count, Room, says
 from damage_rooms import LEFT, WORDS, Store, ring, stages
@@ -114,6 +114,17 @@ def exchanged_saves(run, program):
         Count.same("a save beside another: the old file stands", room.read("plan.txt"), b"old\n")
 
 
+@with_calls
+def written_in_the_midst(run, program):
+    """A process that heeds no lock writes another item over the old slot of one that was copied, before it is erased: it stays."""
+    for command, at, slot in (("move", "pwrite journal.mig 5", 0), ("move", "fdatasync journal.mig 4", 1), ("resume", "pwrite journal.mig 1", 2)):
+        with begun(program, command) as room:
+            room.write("other", cell("s"))
+            ran, what = run(room, WORDS[command], at=at, run=f"dd if=other of=left.disk seek={slot} bs=4096 conv=notrunc status=none"), f"{command}, another item at {at}"
+            refused(room, what, ran, "left", "s")
+            Count.same(f"{what}: it stays", room.read("left.disk")[4096 * slot :][:4096], cell("s"))
+
+
 # Locks
 
 @with_calls
@@ -213,4 +224,4 @@ def owners(run, program):
         Count.that("the link stays", os.path.islink(room.path(JOURNAL)))
 
 
-CALLS = [exchanged_in_the_midst, exchanged_while_closed, exchanged_before_the_lock, exchanged_saves, free_locks, held_locks, interruptions, failures, full, owners]
+CALLS = [exchanged_in_the_midst, written_in_the_midst, exchanged_while_closed, exchanged_before_the_lock, exchanged_saves, free_locks, held_locks, interruptions, failures, full, owners]

@@ -22,7 +22,7 @@ pub use Rattle.mig_calls.specs.declared.calls.CallError.TheVariants.{Failed, Ful
 pub use Rattle.mig_calls.specs.declared.calls.Extent.{Extent}
 pub use Rattle.mig_calls.specs.declared.places.Place.{Place}
 pub use Rattle.mig_calls.specs.declared.places.Place.TheVariants.{Disk, Journal}
-pub use Rattle.mig_files.specs.Counting.{AreCounted, IsNotedAt, is_item, item_count, one_if, times}
+pub use Rattle.mig_files.specs.Counting.{AreCounted, IsNotedAt, item_number, is_among, is_item, item_count, one_if, times}
 pub use Rattle.mig_files.specs.Derived.{cell_bytes, cell_state, cells-shape, cells_of, image_of}
 pub use Rattle.mig_files.specs.Grounds.{IsFaultFor}
 pub use Rattle.mig_files.specs.Seeing.{AreHeld, IsFreeFor, IsHeldElsewhere, KeepsSeen, LosesNone, LosesNoneBut, MayBeEmptied, seen_at, seen_in}

@@ -7,6 +7,7 @@ pub mod TrackingSteps
 pub mod RestSteps
 pub mod Headers
 pub mod Holding
+pub mod ItemCounts
 pub mod Errs
 pub mod SeenItems
 pub mod TaskSteps

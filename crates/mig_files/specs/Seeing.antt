@@ -10,25 +10,25 @@ use Rattle.mig_calls.specs.Refusals.{HoldsItem, WhereTold}
 use Rattle.mig_store.specs.Grounds.{BothHold, IsElsewhere, IsRestOf}
 
 -- the item that was seen at the slot, where the slot wasn't written since
-abbrev pub seen_at : List (Cell × Option (List ℕ)) → Cell → Option (List ℕ)
+abbrev pub seen_at : List (Cell × List ℕ) → Cell → Option (List ℕ)
 seen_at [] slot = None
-seen_at (e ∷ seen) slot = if is_cell slot e.0 then e.1 else seen_at seen slot
+seen_at (e ∷ seen) slot = if is_cell slot e.0 then Some e.1 else seen_at seen slot
 
 -- which items were seen at a slot
-abbrev pub seen_in : List (Cell × Option (List ℕ)) → Cell → List ℕ → Type 0
+abbrev pub seen_in : List (Cell × List ℕ) → Cell → List ℕ → Type 0
 seen_in seen slot item = seen_at seen slot ≡ Some item
 
 -- where its file is told, the slot holds no item but this one that wasn't seen elsewhere
-abbrev pub IsFreeFor : FilesState → List (Cell × Option (List ℕ)) → Cell → List ℕ → Type 0
+abbrev pub IsFreeFor : FilesState → List (Cell × List ℕ) → Cell → List ℕ → Type 0
 IsFreeFor s seen slot item = (other : List ℕ) → IsName other → ¬ (other ≡ item) → IsTrue (s.told (file_of slot)) → HoldsItem s slot other → IsElsewhere (seen_in seen) other slot
 
 -- it holds none that wasn't seen elsewhere
-abbrev pub MayBeEmptied : FilesState → List (Cell × Option (List ℕ)) → Cell → Type 0
+abbrev pub MayBeEmptied : FilesState → List (Cell × List ℕ) → Cell → Type 0
 MayBeEmptied s seen slot = (item : List ℕ) → IsName item → IsTrue (s.told (file_of slot)) → HoldsItem s slot item
     → IsElsewhere (seen_in seen) item slot
 
 -- each item is still where it was seen, where its file is told
-pub record AreHeld (s : FilesState) (seen : List (Cell × Option (List ℕ))) : Type 0 where
+pub record AreHeld (s : FilesState) (seen : List (Cell × List ℕ)) : Type 0 where
   pub slots : (slot : Cell) (item : List ℕ) → seen_at seen slot ≡ Some item → IsTrue (is_slot slot)
   pub holds : (slot : Cell) (item : List ℕ) → seen_at seen slot ≡ Some item → WhereTold s slot (HoldsItem s slot item)
 
@@ -45,11 +45,11 @@ abbrev pub LosesNone : FilesState → Cell → Type 0
 LosesNone s slot = (item : List ℕ) → IsName item → WhereTold s slot (HoldsItem s slot item → IsHeldElsewhere s item slot)
 
 -- what was seen at any other slot is known still, and no more
-abbrev pub KeepsSeen : List (Cell × Option (List ℕ)) → List (Cell × Option (List ℕ)) → Cell → Type 0
+abbrev pub KeepsSeen : List (Cell × List ℕ) → List (Cell × List ℕ) → Cell → Type 0
 KeepsSeen old new slot = (other : Cell) → ¬ (other ≡ slot) → seen_at new other ≡ seen_at old other
 
 -- so is what was seen at any slot but these two
-abbrev pub KeepsSeenBut : List (Cell × Option (List ℕ)) → List (Cell × Option (List ℕ)) → Cell → Cell → Type 0
+abbrev pub KeepsSeenBut : List (Cell × List ℕ) → List (Cell × List ℕ) → Cell → Cell → Type 0
 KeepsSeenBut old new from to = (other : Cell) → ¬ (other ≡ from) → ¬ (other ≡ to) → seen_at new other ≡ seen_at old other
 
 -- the first slot holds the item, and no other is lost where the second is written over

@@ -14,5 +14,5 @@ abbrev pub has_failed : {C : Type 0} {k : Ghosts C} → FileStore C k → Bool
 has_failed s = s.tracked.notes.lost
 
 -- where this process has seen items
-abbrev pub seen_of : {C : Type 0} {k : Ghosts C} → FileStore C k → List (Cell × Option (List ℕ))
+abbrev pub seen_of : {C : Type 0} {k : Ghosts C} → FileStore C k → List (Cell × List ℕ)
 seen_of s = s.seen

@@ -1,5 +1,5 @@
 -- What the cells show of items that were seen.
-use Rattle.std.specs.Prelude.{◌≡◌, ◌≤◌, ◌+◌, ◌-◌, ℕ, zero, suc, Bool, true, false, IsTrue, List, [], ◌∷◌, Option, Some, None, IfSome, if◌then◌else◌}
+use Rattle.std.specs.Prelude.{◌≡◌, ◌≤◌, ◌+◌, ◌-◌, ℕ, zero, suc, Bool, true, false, IsTrue, List, [], ◌∷◌, Some, None, IfSome, if◌then◌else◌}
 use Rattle.std.specs.Prelude.{length, replicate, take, refl}
 use Rattle.std.proofs.Common.{sym, ◌∙◌, ap, arith}
 use Rattle.std.proofs.lemmas.Bool.{false≢true}
@@ -68,6 +68,6 @@ module _ (s : FilesState) (slot : Cell) (is : IsTrue (is_slot slot)) (item : Lis
   holds_cell holds = on_told s slot (HasHeader item) (λ told. header_is (holds told))
 
 -- an item is still where it was seen
-pub holds_seen : (s : FilesState) (seen : List (Cell × Option (List ℕ))) → AreHeld s seen → (slot : Cell) (item : List ℕ) → IsName item → seen_in seen slot item
+pub holds_seen : (s : FilesState) (seen : List (Cell × List ℕ)) → AreHeld s seen → (slot : Cell) (item : List ℕ) → IsName item → seen_in seen slot item
     → Holds (image_of s) slot item
 holds_seen s seen held slot item name was = holds_cell s slot (held.slots slot item was) item name (held.holds slot item was)

@@ -1,5 +1,5 @@
 //! Which items slots hold, and what is refused so that none is lost.
-ghost use Rattle.std.specs.Prelude.{◌≡◌, ◌≤◌, ◌+◌, Some, IsTrue, IsFalse, IfOk, OnOk, OnErr, length};
+ghost use Rattle.std.specs.Prelude.{◌≡◌, ◌≢◌, ◌≤◌, ◌+◌, Some, IsTrue, IsFalse, IfOk, IfSome, OnOk, OnErr, length};
 ghost use Rattle.mig_base.specs.FaultCounts.{Rose};
 ghost use Rattle.mig_base.specs.Cells.{cell_len, is_slot};
 ghost use Rattle.mig_base.specs.Images.{NoCell};
@@ -48,18 +48,20 @@ pub fn note_held<C: Calls>(
         let item = *item;
         return Err(refuse_with(calls, tracked, &Refusal::Cut { slot, item }));
     }
-    note_seen(calls, tracked, seen, slot, item)
+    note_seen(calls, tracked, seen, slot, item, None)
 }
 
-/// Notes where an item is.
+/// Notes where an item is, and from where it was copied, if it was.
 pub fn note_seen<C: Calls>(
     calls: &mut C,
     tracked: &Tracked,
     seen: &mut SeenItems,
     slot: &Cell,
     item: &Name,
+    from: Option<Cell>,
 ) -> Result<(), StoreFailed>
     requires slot { IsTrue (is_slot slot.now) }
+    requires copied { IfSome from (λ other. (other ≢ slot.now) × (seen_at seen.old other ≡ Some item.now)) }
     requires tracked { IsTracked tracked.now.notes (C.Calls.state calls.old) }
     requires holds { WhereTold (C.Calls.state calls.old) slot.now (HoldsItem (C.Calls.state calls.old) slot.now item.now) }
     requires held { AreHeld (C.Calls.state calls.old) seen.old }
@@ -69,7 +71,7 @@ pub fn note_seen<C: Calls>(
     ensures step { IsStep tracked.now.notes (C.Calls.state calls.old) (C.Calls.state calls.new) }
     ensures cause { OnErr result (Rose (C.Calls.state calls.old).faults (C.Calls.state calls.new).faults) }
 {
-    match seen.note(item, slot) {
+    match seen.note(item, slot, from) {
         Ok(()) => Ok(()),
         Err(_) => {
             let (place, _) = place_of(slot);
@@ -92,7 +94,7 @@ pub fn note_read<C: Calls>(calls: &C, seen: &mut SeenItems, cell: &Cell, bytes: 
         _ => return,
     }
     if let Some(item) = item_of(&first_of(bytes)) {
-        match seen.note(&item, cell) {
+        match seen.note(&item, cell, None) {
             Ok(()) | Err(_) => {}
         }
     }

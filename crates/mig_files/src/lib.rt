@@ -4,6 +4,7 @@
 mod cells;
 mod copies;
 mod disk_set;
+mod item_counts;
 mod items;
 mod opening;
 mod pieces;

@@ -136,16 +136,19 @@ fn read_item<C: Calls>(
     }
 }
 
-/// Writes an item to a slot that doesn't hold another.
+/// Writes an item, which was seen at a slot, to another one that doesn't hold another.
 fn put_item<C: Calls>(
     calls: &mut C,
     tracked: &mut Tracked,
     seen: &mut SeenItems,
     slot: &Cell,
     item: &Name,
+    from: &Cell,
     bytes: &[u8],
 ) -> Result<(), StoreFailed>
     requires slot { IsTrue (is_slot slot.now) }
+    requires apart { from.now ≢ slot.now }
+    requires seen { seen_at seen.old from.now ≡ Some item.now }
     requires named { slice_range bytes.now 0 34 ≡ header_of item.now }
     requires length { length bytes.now ≡ cell_len slot.now }
     requires alive { IsFalse tracked.old.notes.lost }
@@ -163,7 +166,7 @@ fn put_item<C: Calls>(
     claim(calls, tracked)?;
     seen.forget(slot);
     write_cell(calls, tracked, slot, bytes)?;
-    note_seen(calls, tracked, seen, slot, item)
+    note_seen(calls, tracked, seen, slot, item, Some(*from))
 }
 
 /// Copies a slot that holds an item to one that doesn't hold another.
@@ -189,5 +192,5 @@ pub fn copy_item<C: Calls>(
 {
     let mut bytes = [0u8; 4096];
     let item = read_item(calls, tracked, seen, from, &mut bytes)?;
-    put_item(calls, tracked, seen, to, &item, &bytes)
+    put_item(calls, tracked, seen, to, &item, from, &bytes)
 }

@@ -1,4 +1,4 @@
-use Rattle.mig_files.proofs.Common.{refl}
+use Rattle.mig_files.proofs.Common.{refl, ◌∙◌}
 use Rattle.mig_files.proofs.TrackingSteps.{step_then, step_at_cell, step_is_write, write_step_then}
 use Rattle.mig_files.proofs.Headers.{on_any}
 use Rattle.mig_files.proofs.Holding.{held_written, holds_written, none_lost_but}
@@ -10,6 +10,9 @@ returns-clause-written g c = on_any _ (written_after c.note_seen.ensures.step.ch
 
 pub returns-clause-free : goal.returns-clause-free
 returns-clause-free g c = on_any c.note_seen.result (none_lost_but c.args.slot.now c.args.item.now c.requires.held c.in_ok-expects_free_for.ensures.free)
+
+pub note_seen-requires-clause-copied : goal.note_seen-requires-clause-copied
+note_seen-requires-clause-copied g c = (c.requires.apart, c.forget.ensures.others c.args.from.now c.requires.apart ∙ c.requires.seen)
 
 pub note_seen-requires-clause-holds : goal.note_seen-requires-clause-holds
 note_seen-requires-clause-holds g c =

@@ -1,10 +1,7 @@
 use Rattle.mig_files.proofs.Common.{arith, rules, ◌+◌}
-use Rattle.mig_files.proofs.SeenItems.{counted_up, raised}
+use Rattle.mig_files.proofs.ItemCounts.{counted_up, raised}
 use Rattle.std.proofs.lemmas.Grind.{common_steps}
-use Rattle.mig_files.proofs.seen.raise.Goals as goal
-
-pub overflow_add-counts : goal.overflow_add-counts
-overflow_add-counts c = let h = counted_up c.args.counts.now.entries c.args.item.now in grind (arith, common_steps)
+use Rattle.mig_files.proofs.item_counts.raise.Goals as goal
 
 pub returns-in-Ok-clause-raised : goal.returns-in-Ok-clause-raised
 returns-in-Ok-clause-raised c = λ other.
