@@ -276,21 +276,34 @@ pub fn show_parts<K: Sink>(out: &mut K, parts: &[TextPart<'_>]) -> u8
     0
 }
 
+/// The same of a line with two numbers.
+fn show_two<'a, K: Sink>(
+    out: &mut K,
+    before: &'a [u8],
+    first: u32,
+    between: &'a [u8],
+    second: u32,
+) -> u8
+    ensures { Shows (joined (before.now ∷ decimal first ∷ between.now ∷ decimal second ∷ codes "\n" ∷ [])) (K.state out.old) (K.state out.new) result }
+{
+    show_parts(
+        out,
+        &[
+            Text(before),
+            Number(first),
+            Text(between),
+            Number(second),
+            Text(b"\n"),
+        ],
+    )
+}
+
 /// Puts how many rounds a plan that is carried out has, and how many of them were found done, and answers the number of
 /// the status: 0, or 6 where the sink fails.
 pub fn show_rounds<K: Sink>(out: &mut K, rounds: u32, found: u32) -> u8
     ensures { Shows (joined (codes "done " ∷ decimal rounds ∷ codes " rounds, found " ∷ decimal found ∷ codes "\n" ∷ [])) (K.state out.old) (K.state out.new) result }
 {
-    show_parts(
-        out,
-        &[
-            Text(b"done "),
-            Number(rounds),
-            Text(b" rounds, found "),
-            Number(found),
-            Text(b"\n"),
-        ],
-    )
+    show_two(out, b"done ", rounds, b" rounds, found ", found)
 }
 
 /// Puts how many rounds a tight plan has, and how many items it parks, and answers the number of the status: 0, or 6 where
@@ -298,16 +311,7 @@ pub fn show_rounds<K: Sink>(out: &mut K, rounds: u32, found: u32) -> u8
 pub fn show_parked<K: Sink>(out: &mut K, rounds: u32, parked: u32) -> u8
     ensures { Shows (joined (codes "rounds " ∷ decimal rounds ∷ codes ", parked " ∷ decimal parked ∷ codes "\n" ∷ [])) (K.state out.old) (K.state out.new) result }
 {
-    show_parts(
-        out,
-        &[
-            Text(b"rounds "),
-            Number(rounds),
-            Text(b", parked "),
-            Number(parked),
-            Text(b"\n"),
-        ],
-    )
+    show_two(out, b"rounds ", rounds, b", parked ", parked)
 }
 
 /// Puts after how many rounds a plan is closed, and how many it has, and answers the number of the status: 0, or 6 where
@@ -315,14 +319,5 @@ pub fn show_parked<K: Sink>(out: &mut K, rounds: u32, parked: u32) -> u8
 pub fn show_halted<K: Sink>(out: &mut K, rounds: u32, found: u32) -> u8
     ensures { Shows (joined (codes "halted after " ∷ decimal found ∷ codes " of " ∷ decimal rounds ∷ codes "\n" ∷ [])) (K.state out.old) (K.state out.new) result }
 {
-    show_parts(
-        out,
-        &[
-            Text(b"halted after "),
-            Number(found),
-            Text(b" of "),
-            Number(rounds),
-            Text(b"\n"),
-        ],
-    )
+    show_two(out, b"halted after ", found, b" of ", rounds)
 }
