@@ -1,8 +1,9 @@
 //! Which line of a plan or of its certificate is not right, and why.
 
-use crate::excerpts::{Excerpt, Said, point, point_whole};
-use crate::files::Given;
-use crate::plans::{NumberedLine, Steps, Want, count_at, line_at, look_for, word_at};
+use crate::excerpts::Piece::Excerpt;
+use crate::excerpts::{Said, point, point_whole, say};
+use crate::files::{Given, Typed};
+use crate::plans::{NumberedLine, START, Steps, Want, count_at, line_at, look_for, word_at};
 use crate::rows::{Key, field, number_at};
 use mig_base::{Blame, read_digits};
 
@@ -42,7 +43,11 @@ fn cert_line(blame: &Blame) -> Option<(u32, &'static str)> {
 
 /// Looks through the text of the plan.
 fn look_in<'a>(given: &Given<'a>, want: &Want<'_>) -> Steps<'a> {
-    look_for(given.file("PLAN").map_or(&[], |plan| plan.bytes), want)
+    let text: &[u8] = match given.file("PLAN") {
+        Some(plan) => plan.bytes,
+        None => &[],
+    };
+    look_for(text, want)
 }
 
 /// Points to a line of the plan, or to the whole where it has no such line.
@@ -61,21 +66,10 @@ fn in_round(item: &[u8], round: u32) -> Want<'_> {
 
 fn say_plan(f: &mut String, given: &Given<'_>, blame: &Blame, name: &[u8]) -> Said {
     match blame {
-        Blame::EmptyRound { round } => {
-            point_step(f, given, look_in(given, &Want::Head(*round)).first)?;
-            f.push_str("a round has one shift at least")
-        }
+        Blame::EmptyRound { round } => say_empty(f, given, *round),
         Blame::OverLimit { round, count, .. } => say_limit(f, given, *round, name, *count),
         Blame::NotHere { round, .. } => say_elsewhere(f, given, *round, name),
-        Blame::TwiceInRound { round, .. } => {
-            let steps = look_in(given, &in_round(name, *round));
-            point_step(f, given, steps.second)?;
-            let first = steps.first_line();
-            write!(
-                f,
-                "line {first} moves this item in the same round: a round moves an item once"
-            )
-        }
+        Blame::TwiceInRound { round, .. } => say_twice(f, given, *round, name),
         Blame::SlotNotFree { round, .. } => say_not_free(f, given, *round, name),
         Blame::WrongEnd { .. } => say_wrong_end(f, given, name),
         Blame::MovedTooOften { .. } => say_too_often(f, given, name),
@@ -83,25 +77,46 @@ fn say_plan(f: &mut String, given: &Given<'_>, blame: &Blame, name: &[u8]) -> Sa
     }
 }
 
+fn say_empty(f: &mut String, given: &Given<'_>, round: u32) -> Said {
+    point_head(f, given, round)?;
+    f.push_str("a round has one shift at least")
+}
+
+/// Points to the head of a round.
+fn point_head(f: &mut String, given: &Given<'_>, round: u32) -> Said {
+    point_step(f, given, look_in(given, &Want::Head(round)).first)
+}
+
+fn say_twice(f: &mut String, given: &Given<'_>, round: u32, item: &[u8]) -> Said {
+    let steps = look_in(given, &in_round(item, round));
+    point_step(f, given, steps.second)?;
+    say!(f; "line {} moves this item in the same round: a round moves an item once", steps.first.unwrap_or(START).line)
+}
+
 fn say_limit(f: &mut String, given: &Given<'_>, round: u32, disk: &[u8], count: u32) -> Said {
-    point_step(f, given, look_in(given, &Want::Head(round)).first)?;
-    let shifts = Want::Shifts(round, round.saturating_add(1), 1, disk);
-    let leaving = look_in(given, &shifts).count;
-    let name = Excerpt(disk);
-    write!(f, "{count} shifts of this round ")?;
+    point_head(f, given, round)?;
+    say_over(f, given, round, disk, count)
+}
+
+/// By how much a round passes the limit of a disk.
+fn say_over(f: &mut String, given: &Given<'_>, round: u32, disk: &[u8], count: u32) -> Said {
     let Some(disks) = given.file("DISKS") else {
-        return write!(f, "are too many for `{name}`");
+        return say!(f; "{} shifts of this round are too many for `{}`", count, Excerpt(disk));
     };
-    let row: &[u8] = disks.find(&Key::First(disk)).map_or(&[], |row| row.text);
+    let shifts = Want::Shifts(round, round.saturating_add(1), 1, disk);
+    let (way, kind, limit) = passed_limit(&disks, disk, look_in(given, &shifts).count);
+    say!(f; "{} shifts of this round {} `{}`, and its {} is {}", count, way, Excerpt(disk), kind, limit)
+}
+
+/// What the shifts of a round do, of which so many leave a disk, and the limit that they pass.
+fn passed_limit(disks: &Typed<'_>, disk: &[u8], leaving: u32) -> (&'static str, &'static str, u64) {
+    let row = disks.listed(&Key::First(disk)).text;
     let first = number_at(row, 1);
-    let second = number_at(row, 2);
-    if !disks.has_sides() {
-        return write!(f, "leave or reach `{name}`, and its limit is {first}");
+    match u64::from(leaving) > first {
+        _ if !disks.has_sides() => ("leave or reach", "limit", first),
+        true => ("leave", "outgoing limit", first),
+        false => ("reach", "incoming limit", number_at(row, 2)),
     }
-    if u64::from(leaving) > first {
-        return write!(f, "leave `{name}`, and its outgoing limit is {first}");
-    }
-    write!(f, "reach `{name}`, and its incoming limit is {second}")
 }
 
 /// Where an item is before a round: where an earlier shift left it, or where the file of now lists it.
@@ -121,12 +136,9 @@ fn say_elsewhere(f: &mut String, given: &Given<'_>, round: u32, item: &[u8]) -> 
     let first = steps.first_text();
     let leaves = word_at(first, 1) == disk && read_digits(word_at(first, 2)) == Some(slot);
     point_step(f, given, if leaves { steps.second } else { steps.first })?;
-    let name = Excerpt(item);
-    let disk = Excerpt(disk);
-    write!(
-        f,
-        "before round {round} `{name}` is in slot {slot} of `{disk}`, and a shift leaves where its item is: was NOW changed since `plan`?"
-    )
+    let text =
+        "before round {} `{}` is in slot {} of `{}`, and a shift leaves where its item is: was NOW changed since `plan`?";
+    say!(f; text, round, Excerpt(item), slot, Excerpt(disk))
 }
 
 fn say_not_free(f: &mut String, given: &Given<'_>, round: u32, item: &[u8]) -> Said {
@@ -136,11 +148,10 @@ fn say_not_free(f: &mut String, given: &Given<'_>, round: u32, item: &[u8]) -> S
     let slot = u64::from(count_at(steps.first_text(), 4));
     let disk = Excerpt(name);
     match given.slots_of(name) {
-        Some(slots) if slot >= slots => write!(f, "`{disk}` has {slots} slots, which count from 0"),
-        _ => write!(
-            f,
-            "slot {slot} of `{disk}` has an item before round {round}, or an earlier line of the round goes there"
-        ),
+        Some(slots) if slot >= slots =>
+            say!(f; "`{}` has {} slots, which count from 0", disk, slots),
+        _ =>
+            say!(f; "slot {} of `{}` has an item before round {}, or an earlier line of the round goes there", slot, disk, round),
     }
 }
 
@@ -152,26 +163,21 @@ fn disk_in<'a>(given: &Given<'a>, role: &str, item: &[u8]) -> Option<&'a [u8]> {
 
 fn say_wrong_end(f: &mut String, given: &Given<'_>, item: &[u8]) -> Said {
     let last = look_in(given, &Want::Shifts(0, u32::MAX, 0, item)).last;
-    let name = Excerpt(item);
     let next = given.shown("NEXT");
     let disk = Excerpt(disk_in(given, "NEXT", item).unwrap_or(b"another disk"));
     let later = if last.is_some() { "later " } else { "" };
     point_step(f, given, last)?;
-    write!(
-        f,
-        "no {later}line moves `{name}`, and {next} wants it on `{disk}`"
-    )
+    say!(f; "no {}line moves `{}`, and {} wants it on `{}`", later, Excerpt(item), next, disk)
 }
 
 fn say_too_often(f: &mut String, given: &Given<'_>, item: &[u8]) -> Said {
     let last = look_in(given, &Want::Shifts(0, u32::MAX, 0, item)).last;
     point_step(f, given, last)?;
-    let name = Excerpt(item);
     let now = disk_in(given, "NOW", item);
     let (before, after) = if now.is_some() && now == disk_in(given, "NEXT", item) {
         ("", "stays on its disk, and a plan moves no item that stays")
     } else {
         ("an earlier line moves ", "too: a plan moves an item once")
     };
-    write!(f, "{before}`{name}` {after}")
+    say!(f; "{}`{}` {}", before, Excerpt(item), after)
 }

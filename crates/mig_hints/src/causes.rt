@@ -1,6 +1,7 @@
 //! What was expected in a row that was refused.
 
-use crate::excerpts::{Excerpt, Said};
+use crate::excerpts::Piece::Excerpt;
+use crate::excerpts::{Said, say};
 use crate::files::{Given, Typed};
 use crate::headers::without_empty;
 use crate::names::say_no_name;
@@ -22,25 +23,20 @@ fn fields_of(file: FileKind, sides: bool) -> (usize, &'static str) {
 
 /// What is wrong with a row that a spreadsheet or a person wrote in another form, whatever it is refused for.
 fn other_form(row: &[u8]) -> Option<&'static str> {
-    if row.iter().filter(|b| **b == b'"').count() % 2 == 1 {
-        return Some("a double quote is opened here and not closed");
+    let quotes = row.iter().filter(|b| **b == b'"').count();
+    match row {
+        _ if quotes % 2 == 1 => Some("a double quote is opened here and not closed"),
+        _ if without_empty(row).is_empty() => {
+            Some("an empty row, as spreadsheets write them: delete it")
+        }
+        _ if row.starts_with(b"#") => Some("there are no comments: remove this line"),
+        _ if row.contains(&b',') => None,
+        _ if row.contains(&b';') => {
+            Some("the fields are separated by semicolons; separate by commas")
+        }
+        _ if row.contains(&b'\t') => Some("the fields are separated by tabs; separate by commas"),
+        _ => None,
     }
-    if without_empty(row).is_empty() {
-        return Some("an empty row, as spreadsheets write them: delete it");
-    }
-    if row.starts_with(b"#") {
-        return Some("there are no comments: remove this line");
-    }
-    if row.contains(&b',') {
-        return None;
-    }
-    if row.contains(&b';') {
-        return Some("the fields are separated by semicolons; separate by commas");
-    }
-    if row.contains(&b'\t') {
-        return Some("the fields are separated by tabs; separate by commas");
-    }
-    None
 }
 
 /// What was expected in a row, or of the files as a whole.
@@ -53,8 +49,6 @@ pub(crate) fn say_cause(
     row: &[u8],
 ) -> Said {
     let sides = file == FileKind::Disks && typed.has_sides();
-    let now = given.shown("NOW");
-    let next = given.shown("NEXT");
     match (why, other_form(row)) {
         (Why::BadWidth | Why::BadName, Some(form)) => f.push_str(form),
         (Why::BadWidth, None) => say_width(f, file, sides, row),
@@ -65,18 +59,13 @@ pub(crate) fn say_cause(
         (Why::UnknownDisk, _) => given.say_unlisted(f, field(row, 1)),
         (Why::SlotTooHigh, _) => say_slot(f, given, row),
         (Why::SlotTaken, _) => say_taken(f, typed, row),
-        (Why::TooManyRows, _) if file == FileKind::Disks => {
-            write!(f, "at most {MAX_DISKS} disks are planned at once")
-        }
-        (Why::TooManyRows, _) => write!(f, "at most {MAX_ITEMS} items are planned at once"),
-        (Why::NotInNow, _) => write!(
-            f,
-            "{now} does not list this item: list there where it is, or remove this line"
-        ),
-        (Why::NotInNext, _) => write!(
-            f,
-            "{next} does not list this item: list there the disk where it is to be, the same one where it stays"
-        ),
+        (Why::TooManyRows, _) if file == FileKind::Disks =>
+            say!(f; "at most {} disks are planned at once", MAX_DISKS),
+        (Why::TooManyRows, _) => say!(f; "at most {} items are planned at once", MAX_ITEMS),
+        (Why::NotInNow, _) =>
+            say!(f; "{} does not list this item: list there where it is, or remove this line", given.shown("NOW")),
+        (Why::NotInNext, _) =>
+            say!(f; "{} does not list this item: list there the disk where it is to be, the same one where it stays", given.shown("NEXT")),
         (Why::NoRoom { needs, slots, .. }, _) => say_room(f, given, *needs, *slots),
         _ => Ok(()),
     }
@@ -85,15 +74,12 @@ pub(crate) fn say_cause(
 /// A row with too few or too many fields.
 fn say_width(f: &mut String, file: FileKind, sides: bool, row: &[u8]) -> Said {
     let (wanted, names) = fields_of(file, sides);
-    let found = width(row);
-    write!(
-        f,
-        "a row has {wanted} fields, separated by commas: {names}; here are {found}"
-    )?;
-    if width(without_empty(row)) == wanted {
-        return f.push_str(": delete the empty columns at its end");
-    }
-    Ok(())
+    let help = if width(without_empty(row)) == wanted {
+        ": delete the empty columns at its end"
+    } else {
+        ""
+    };
+    say!(f; "a row has {} fields, separated by commas: {}; here are {}{}", wanted, names, width(row), help)
 }
 
 /// A field that names a disk or an item, and is no name.
@@ -117,21 +103,26 @@ fn what_at(file: FileKind, sides: bool, place: usize) -> &'static str {
     }
 }
 
+/// The first place from this one on whose field is no number; this one where all are.
+fn wrong_place(row: &[u8], first: usize) -> usize {
+    for place in first..4 {
+        if read_digits(field(row, place)).is_none() {
+            return place;
+        }
+    }
+    first
+}
+
 /// A field that should be a number, and is none.
 fn say_number(f: &mut String, file: FileKind, sides: bool, row: &[u8]) -> Said {
     let first = if file == FileKind::Disks { 1 } else { 2 };
-    let is_wrong = |place: &usize| read_digits(field(row, *place)).is_none();
-    let place = (first..4).find(is_wrong).unwrap_or(first);
+    let place = wrong_place(row, first);
     let what = what_at(file, sides, place);
     let wrong = field(row, place);
     if wrong.is_empty() {
-        return write!(f, "the {what} is empty; 1 to 10 digits are wanted");
+        return say!(f; "the {} is empty; 1 to 10 digits are wanted", what);
     }
-    let wrong = Excerpt(wrong);
-    write!(
-        f,
-        "the {what} is `{wrong}`; 1 to 10 digits are wanted, and nothing else"
-    )
+    say!(f; "the {} is `{}`; 1 to 10 digits are wanted, and nothing else", what, Excerpt(wrong))
 }
 
 /// A limit or a number of slots out of range.
@@ -141,24 +132,16 @@ fn say_range(f: &mut String, sides: bool, row: &[u8]) -> Said {
         let limit = number_at(row, place);
         if limit < 1 || limit > u64::from(MAX_LIMIT) {
             let what = what_at(FileKind::Disks, sides, place);
-            return write!(
-                f,
-                "the {what} is {limit}, and must be 1 to {MAX_LIMIT}; a greater one is written as {MAX_LIMIT}"
-            );
+            return say!(f; "the {} is {}, and must be 1 to {}; a greater one is written as {}", what, limit, MAX_LIMIT, MAX_LIMIT);
         }
     }
-    let slots = number_at(row, slots_at);
-    write!(
-        f,
-        "the number of slots is {slots}, and must be 1 to {MAX_SLOTS}"
-    )
+    say!(f; "the number of slots is {}, and must be 1 to {}", number_at(row, slots_at), MAX_SLOTS)
 }
 
 /// A disk or an item that an earlier row of the file has.
 fn say_twice(f: &mut String, typed: &Typed<'_>, row: &[u8]) -> Said {
-    let name = Excerpt(field(row, 0));
-    let line = typed.line_of(&Key::First(field(row, 0)));
-    write!(f, "`{name}` is listed before, in line {line}")
+    let name = field(row, 0);
+    say!(f; "`{}` is listed before, in line {}", Excerpt(name), typed.listed(&Key::First(name)).line)
 }
 
 /// A slot that isn't below the disk's slots.
@@ -167,14 +150,9 @@ fn say_slot(f: &mut String, given: &Given<'_>, row: &[u8]) -> Said {
     let disk = Excerpt(name);
     let word = given.shown("DISKS");
     match given.slots_of(name) {
-        Some(slots) => {
-            let last = slots.saturating_sub(1);
-            write!(
-                f,
-                "slots count from 0: the last slot of `{disk}`, which has {slots} by {word}, is {last}"
-            )
-        }
-        None => write!(f, "slots count from 0, and `{disk}` has fewer"),
+        Some(slots) =>
+            say!(f; "slots count from 0: the last slot of `{}`, which has {} by {}, is {}", disk, slots, word, slots.saturating_sub(1)),
+        None => say!(f; "slots count from 0, and `{}` has fewer", disk),
     }
 }
 
@@ -182,26 +160,20 @@ fn say_slot(f: &mut String, given: &Given<'_>, row: &[u8]) -> Said {
 fn say_taken(f: &mut String, now: &Typed<'_>, row: &[u8]) -> Said {
     let disk = field(row, 1);
     let slot = number_at(row, 2);
-    let line = now.line_of(&Key::Spot { disk, slot });
-    let disk = Excerpt(disk);
-    write!(
-        f,
-        "line {line} has slot {slot} of `{disk}`: a slot holds one item"
-    )
+    let line = now.listed(&Key::Spot { disk, slot }).line;
+    say!(f; "line {} has slot {} of `{}`: a slot holds one item", line, slot, Excerpt(disk))
 }
 
 /// A disk without room for what comes to it.
 fn say_room(f: &mut String, given: &Given<'_>, needs: u32, slots: u32) -> Said {
-    write!(
-        f,
-        "{needs} slots are wanted of the {slots}: one for each item that is on the disk now, and one for each that comes."
-    )?;
-    f.push_str(" A slot that an item leaves is not counted as room: ")?;
+    say!(f; "{} slots are wanted of the {}: one for each item that is on the disk now, and one for each that comes. ", needs, slots)?;
+    f.push_str("A slot that an item leaves is not counted as room: ")?;
     let command = given.command();
-    if ["after", "move", "resume", "halt"].contains(&command) {
-        return write!(f, "a plan of `plan-tight` is for `{command}-tight`");
+    match command {
+        "after" | "move" | "resume" | "halt" =>
+            say!(f; "a plan of `plan-tight` is for `{}-tight`", command),
+        _ => f.push_str(
+            "add slots, or let `plan-tight` plan it, which moves one item at a time and parks some on other disks where it must",
+        ),
     }
-    f.push_str(
-        "add slots, or let `plan-tight` plan it, which moves one item at a time and parks some on other disks where it must",
-    )
 }

@@ -1,6 +1,7 @@
 //! The lines of a certificate's text.
 
-use crate::excerpts::{Excerpt, Said};
+use crate::excerpts::Piece::Excerpt;
+use crate::excerpts::{Said, say};
 use crate::files::Given;
 use crate::plans::{count_at, line_at, word_at};
 use crate::rows::{Key, number_at};
@@ -24,22 +25,14 @@ pub(crate) fn say_cert_line(f: &mut String, given: &Given<'_>, text: &[u8], numb
 
 /// The first line, which says whether disks have two limits.
 fn say_title(f: &mut String, given: &Given<'_>, line: &[u8]) -> Said {
-    let disks = given.shown("DISKS");
-    let has_sides = given.file("DISKS").map(|disks| disks.has_sides());
-    let (made, has) = match has_sides {
-        Some(true) if line == b"migration-certificate 1".as_slice() => ("joint limits, one", "two"),
-        Some(false) if line == b"migration-certificate 2".as_slice() => (
-            "split limits, two",
-            "one",
-        ),
+    let (made, has) = match (given.file("DISKS"), line) {
+        (Some(it), b"migration-certificate 1") if it.has_sides() => ("joint limits, one", "two"),
+        (Some(it), b"migration-certificate 2") if !it.has_sides() => ("split limits, two", "one"),
         _ => return f.push_str(
             "a certificate begins with the line `migration-certificate 1`, or `migration-certificate 2` where disks have two limits: is this the file of CERT?",
         ),
     };
-    write!(
-        f,
-        "this certificate was made for {made} for each disk, and {disks} has {has} for each: plan again"
-    )
+    say!(f; "this certificate was made for {} for each disk, and {} has {} for each: plan again", made, given.shown("DISKS"), has)
 }
 
 /// The line of the bound, which may name a disk and its limit.
@@ -49,12 +42,8 @@ fn say_bound(f: &mut String, given: &Given<'_>, line: &[u8]) -> Said {
             "wanted is `bound nothing`, `bound disk NAME LOAD LIMIT VALUE` with the disk's limit, or `bound set COUNT INSIDE VALUE`; where disks have two limits `bound nothing`, or `bound side NAME out LOAD LIMIT VALUE` or the same with `in`",
         );
     };
-    let name = Excerpt(word_at(line, 2));
-    let disks = given.shown("DISKS");
-    write!(
-        f,
-        "the limit of `{name}` is {there} here, and {listed} in {disks}: was it changed since `plan`? Plan again"
-    )
+    let (name, disks) = (Excerpt(word_at(line, 2)), given.shown("DISKS"));
+    say!(f; "the limit of `{}` is {} here, and {} in {}: was it changed since `plan`? Plan again", name, there, listed, disks)
 }
 
 /// The limit in the line of a bound and that in the file of disks, where they are two.

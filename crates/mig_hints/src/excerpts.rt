@@ -1,21 +1,40 @@
-//! Bytes as they are shown, and the line that a hint points to.
+//! The pieces of which a hint is written, and the line that it points to.
 
 use std::alloc::AllocError;
-use std::fmt::{self, Formatter};
 
 /// How many characters of a text are shown.
 const MOST: usize = 60;
 
-/// The first characters of a text, each as it is or, where it is none that can be seen, as its number.
+/// A piece of a hint.
 #[derive(Clone, Copy)]
-pub(crate) struct Excerpt<'a>(pub(crate) &'a [u8]);
+pub(crate) enum Piece<'a> {
+    Text(&'a str),
+    Number(u64),
+    /// The first characters of a text, each as it is or, where it is none that can be seen, as its number.
+    Excerpt(&'a [u8]),
+}
 
-impl<'a> fmt::Display for Excerpt<'a> {
-    fn fmt<W: fmt::Write>(&self, f: &mut Formatter<W>) -> fmt::Result {
-        match std::str::from_utf8(self.0) {
-            Ok(text) => write_text(text, f),
-            Err(_) => write_bytes(self.0, f),
-        }
+impl<'a> From<&'a str> for Piece<'a> {
+    fn from(text: &'a str) -> Piece<'a> {
+        Piece::Text(text)
+    }
+}
+
+impl<'a> From<u32> for Piece<'a> {
+    fn from(number: u32) -> Piece<'a> {
+        Piece::Number(u64::from(number))
+    }
+}
+
+impl<'a> From<u64> for Piece<'a> {
+    fn from(number: u64) -> Piece<'a> {
+        Piece::Number(number)
+    }
+}
+
+impl<'a> From<usize> for Piece<'a> {
+    fn from(number: usize) -> Piece<'a> {
+        Piece::Number(number as u64)
     }
 }
 
@@ -26,43 +45,73 @@ fn is_plain(code: u32) -> bool {
         || (code >= 0x2070 && code != 0xfeff)
 }
 
-fn write_one<W: fmt::Write>(c: char, f: &mut Formatter<W>) -> fmt::Result {
+fn put_one(f: &mut String, c: char) -> Said {
     let code = u32::from(c);
     if is_plain(code) {
-        return f.write_char(c);
+        return f.push(c);
     }
     write!(f, "\\x{code:02x}")
 }
 
-fn write_text<W: fmt::Write>(text: &str, f: &mut Formatter<W>) -> fmt::Result {
+fn put_text(f: &mut String, text: &str) -> Said {
     for c in text.chars().take(MOST) {
-        write_one(c, f)?;
+        put_one(f, c)?;
     }
     let is_cut = text.chars().nth(MOST).is_some();
-    f.write_str(if is_cut { " .." } else { "" })
+    f.push_str(if is_cut { " .." } else { "" })
 }
 
 /// Bytes that are no UTF-8 are shown as those of Latin-1.
-fn write_bytes<W: fmt::Write>(bytes: &[u8], f: &mut Formatter<W>) -> fmt::Result {
+fn put_bytes(f: &mut String, bytes: &[u8]) -> Said {
     let part = bytes.get(..MOST).unwrap_or(bytes);
     for byte in part {
-        write_one(char::from(*byte), f)?;
+        put_one(f, char::from(*byte))?;
     }
-    f.write_str(if part.len() < bytes.len() { " .." } else { "" })
+    f.push_str(if part.len() < bytes.len() { " .." } else { "" })
+}
+
+fn put_piece(f: &mut String, piece: &Piece<'_>) -> Said {
+    match piece {
+        Piece::Text(text) => f.push_str(text),
+        Piece::Number(number) => write!(f, "{number}"),
+        Piece::Excerpt(bytes) => match std::str::from_utf8(bytes) {
+            Ok(text) => put_text(f, text),
+            Err(_) => put_bytes(f, bytes),
+        },
+    }
 }
 
 /// What comes of adding to a hint: want of memory gives none.
 pub(crate) type Said = Result<(), AllocError>;
 
+/// Adds a text with these pieces in the places of its marks `{}`.
+pub(crate) fn put(f: &mut String, text: &str, pieces: &[Piece<'_>]) -> Said {
+    let mut pieces = pieces.iter();
+    for part in text.split("{}") {
+        f.push_str(part)?;
+        if let Some(piece) = pieces.next() {
+            put_piece(f, piece)?;
+        }
+    }
+    Ok(())
+}
+
+/// The same of whatever a piece is made from: one call, where `write!` makes one for each piece.
+macro_rules! say {
+    ($f:expr; $text:expr, $($piece:expr),+) => {
+        $crate::excerpts::put($f, $text, &[$($crate::excerpts::Piece::from($piece)),+])
+    };
+}
+
+pub(crate) use say;
+
 /// Points to a line of a file. Lines count from 1.
 pub(crate) fn point(f: &mut String, word: &str, line: usize, text: &[u8]) -> Said {
-    let word = Excerpt(word.as_bytes());
-    let text = Excerpt(text);
-    write!(f, "migrate: {word}, line {line}: {text}\nmigrate: ")
+    let (word, text) = (Piece::Excerpt(word.as_bytes()), Piece::Excerpt(text));
+    say!(f; "migrate: {}, line {}: {}\nmigrate: ", word, line, text)
 }
 
 /// Points to a file as a whole.
 pub(crate) fn point_whole(f: &mut String, word: &str) -> Said {
-    let word = Excerpt(word.as_bytes());
-    write!(f, "migrate: {word}: ")
+    say!(f; "migrate: {}: ", Piece::Excerpt(word.as_bytes()))
 }

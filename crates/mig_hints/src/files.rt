@@ -1,7 +1,8 @@
 //! The files of a command: when each had changed before it, and what it holds where it hasn't changed since.
 
 use crate::commands::{is_saved, row_of};
-use crate::excerpts::{Excerpt, Said};
+use crate::excerpts::Piece::Excerpt;
+use crate::excerpts::{Piece, Said, say};
 use crate::rows::{Key, NumberedRow, field, number_at};
 use mig_base::MAX_FILE_BYTES;
 use mig_io::read_first;
@@ -85,12 +86,18 @@ pub(crate) struct Given<'a> {
 impl<'a> Given<'a> {
     /// The name of the command.
     pub(crate) fn command(&self) -> &'a str {
-        self.words.first().map_or("", |word| word.as_str())
+        match self.words.first() {
+            Some(word) => word.as_str(),
+            None => "",
+        }
     }
 
     /// What the words after it stand for, in their order.
     pub(crate) fn roles(&self) -> &'static [&'static str] {
-        row_of(self.command()).map_or(&[], |row| row.roles)
+        match row_of(self.command()) {
+            Some(row) => row.roles,
+            None => &[],
+        }
     }
 
     fn place_of(&self, role: &str) -> Option<usize> {
@@ -104,7 +111,7 @@ impl<'a> Given<'a> {
     }
 
     /// The word with this role, for what is said of it.
-    pub(crate) fn shown(&self, role: &'a str) -> Excerpt<'a> {
+    pub(crate) fn shown(&self, role: &'a str) -> Piece<'a> {
         Excerpt(self.word(role).unwrap_or(role).as_bytes())
     }
 
@@ -130,14 +137,11 @@ impl<'a> Given<'a> {
 
     /// Says that the file of disks doesn't list a disk.
     pub(crate) fn say_unlisted(&self, f: &mut String, disk: &[u8]) -> Said {
-        let word = self.shown("DISKS");
-        let name = Excerpt(disk);
-        write!(f, "{word} lists no disk `{name}`")?;
-        let Some(alike) = self.find("DISKS", &Key::AnyCase(disk)) else {
-            return Ok(());
-        };
-        let name = Excerpt(field(alike.text, 0));
-        write!(f, ", but `{name}`: capitals count")
+        say!(f; "{} lists no disk `{}`", self.shown("DISKS"), Excerpt(disk))?;
+        match self.find("DISKS", &Key::AnyCase(disk)) {
+            Some(alike) => say!(f; ", but `{}`: capitals count", Excerpt(field(alike.text, 0))),
+            None => Ok(()),
+        }
     }
 }
 
@@ -147,10 +151,8 @@ pub(crate) fn load<R: Files<File = File> + AllocGlobal>(
     words: &[String],
     seen: &Stamps,
 ) -> Result<Vec<Option<Vec<u8>>>, AllocError> {
-    let places = 0..MOST_WORDS;
-    places
-        .map(|place| read_again(rt, words, seen, place))
-        .collect(rt.alloc())
+    let texts = (0..MOST_WORDS).map(|place| read_again(rt, words, seen, place));
+    texts.collect(rt.alloc())
 }
 
 /// The first bytes of the plain file at a place, if the command read it.
@@ -160,20 +162,27 @@ fn read_again<R: Files<File = File> + AllocGlobal>(
     seen: &Stamps,
     place: usize,
 ) -> Option<Vec<u8>> {
-    let row = row_of(words.first()?.as_str())?;
-    let role = row.roles.get(place)?;
-    let name = words.get(place.checked_add(1)?)?.as_str();
-    let before = seen.words.get(place)?.as_ref()?;
-    if is_saved(row, role) || stamp_at(rt, name) != Some(*before) {
+    let name = name_at(words, place)?;
+    let before = seen.words.get(place)?;
+    if before.is_none() || stamp_at(rt, name) != *before {
         return None;
     }
     let mut file = fs::open(rt, name).ok()?;
     read_first(rt.alloc(), &mut file, MOST).ok()
 }
 
+/// The name of the file at a place, if the command reads it.
+fn name_at(words: &[String], place: usize) -> Option<&str> {
+    let row = row_of(words.first()?.as_str())?;
+    if is_saved(row, row.roles.get(place)?) {
+        return None;
+    }
+    Some(words.get(place.checked_add(1)?)?.as_str())
+}
+
 /// Whether the name leads nowhere.
 pub(crate) fn is_missing<R: Files<File = File>>(rt: &R, name: &str) -> bool {
-    fs::metadata(rt, name).is_err_and(|error| error.kind() == ErrorKind::NotFound)
+    matches!(fs::metadata(rt, name), Err(error) if error.kind() == ErrorKind::NotFound)
 }
 
 /// Reads at an offset of a file, if that can be done; what lies past its end is zeros.

@@ -1,6 +1,6 @@
 //! Why the first line of a file is no header.
 
-use crate::excerpts::Said;
+use crate::excerpts::{Said, say};
 use crate::files::Typed;
 use crate::rows::without_mark;
 use mig_base::FileKind;
@@ -78,27 +78,35 @@ fn other_kind(bytes: &[u8]) -> Option<&'static str> {
 
 /// What is said where the first row of a file is not its header.
 pub(crate) fn say_no_header(f: &mut String, file: FileKind, typed: &Typed<'_>) -> Said {
-    if let Some(kind) = other_kind(without_mark(typed.bytes)) {
-        return f.push_str(kind);
+    match (other_kind(without_mark(typed.bytes)), typed.row(0)) {
+        (Some(kind), _) => f.push_str(kind),
+        (None, Some(row)) => say_line(f, file, row.text),
+        (None, None) => {
+            say!(f; "the file is empty; its first line must be {}", headers_of(file))
+        }
     }
+}
+
+/// Why a line is not the header of a file.
+fn say_line(f: &mut String, file: FileKind, line: &[u8]) -> Said {
+    for other in &[FileKind::Disks, FileKind::Now, FileKind::Next] {
+        if *other != file && is_meant(*other, line) {
+            let (here, there, wanted) = (role_of(file), role_of(*other), headers_of(file));
+            say!(f; "this is the header of {}, and this word stands for {}, whose header is {}: ", there, here, wanted)?;
+            return f.push_str("the words come in the order DISKS NOW NEXT");
+        }
+    }
+    let (fault, wanted) = fault_of(file, line);
+    say!(f; "{}{}", fault, wanted)
+}
+
+/// What is wrong with a line, and the header that is to be in its place.
+fn fault_of(file: FileKind, line: &[u8]) -> (&'static str, &'static str) {
     let wanted = headers_of(file);
-    let Some(row) = typed.row(0) else {
-        return write!(f, "the file is empty; its first line must be {wanted}");
-    };
-    let line = row.text;
-    let kinds = [FileKind::Disks, FileKind::Now, FileKind::Next];
-    let mut others = kinds.into_iter().filter(|other| *other != file);
-    if let Some(other) = others.find(|other| is_meant(*other, line)) {
-        let (here, there) = (role_of(file), role_of(other));
-        return write!(
-            f,
-            "this is the header of {there}, and this word stands for {here}, whose header is {wanted}: the words come in the order DISKS NOW NEXT"
-        );
-    }
     let whole = without_empty(line);
     let has_comma = line.contains(&b',');
     let fault = if line.starts_with(b"sep=") || line.starts_with(b"#") {
-        return write!(f, "remove this line: the first line must be {wanted}");
+        return ("remove this line: the first line must be ", wanted);
     } else if !has_comma && line.contains(&b';') {
         "the fields are separated by semicolons; separate by commas: "
     } else if !has_comma && line.contains(&b'\t') {
@@ -108,8 +116,7 @@ pub(crate) fn say_no_header(f: &mut String, file: FileKind, typed: &Typed<'_>) -
     } else if whole.len() < line.len() && is_meant(file, whole) {
         "delete the empty columns at its end: the first line must be "
     } else {
-        return write!(f, "the first line must be {wanted}");
+        return ("the first line must be ", wanted);
     };
-    let meant = meant_by(file, whole);
-    write!(f, "{fault}{meant}")
+    (fault, meant_by(file, whole))
 }

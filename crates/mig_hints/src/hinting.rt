@@ -52,17 +52,26 @@ fn say_ending<R: AllocGlobal + Files<File = File>>(
     match ending {
         CommandError::NoFile { place } => say_no_file(f, &given, *place),
         CommandError::Found(finding) => say_finding(f, &given, finding),
-        CommandError::Refusal(refusal) => match refusal {
-            StoreRefusal::Started => say_begun(rt, f, &given),
-            StoreRefusal::OtherPlan { .. } => say_other(f, &given),
-            StoreRefusal::NotStarted => say_idle(rt, f),
-            StoreRefusal::NotThere { item: Some(item) } => say_lost(rt, f, &given, item),
-            StoreRefusal::Occupied { disk, slot } => match disk {
-                Some(disk) => say_used(rt, f, &given, disk, *slot),
-                None => Ok(()),
-            },
-            _ => Ok(()),
-        },
+        CommandError::Refusal(refusal) => say_refusal(rt, f, &given, refusal),
+        _ => Ok(()),
+    }
+}
+
+fn say_refusal<R: AllocGlobal + Files<File = File>>(
+    rt: &R,
+    f: &mut String,
+    given: &Given<'_>,
+    refusal: &StoreRefusal,
+) -> Said {
+    match refusal {
+        StoreRefusal::Started => say_begun(rt, f, given),
+        StoreRefusal::OtherPlan { .. } => say_other(f, given),
+        StoreRefusal::NotStarted => say_idle(rt, f),
+        StoreRefusal::NotThere { item: Some(item) } => say_lost(rt, f, given, item),
+        StoreRefusal::Occupied {
+            disk: Some(disk),
+            slot,
+        } => say_used(rt, f, given, disk, *slot),
         _ => Ok(()),
     }
 }

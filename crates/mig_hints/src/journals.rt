@@ -1,6 +1,6 @@
 //! Status 8: what the journal says, and where to look first.
 
-use crate::excerpts::Said;
+use crate::excerpts::{Said, say};
 use crate::files::{Given, is_missing, read_at};
 use crate::plans::{count_at, line_at};
 use sha2::{Digest, Sha256};
@@ -39,33 +39,26 @@ pub(crate) fn say_idle<R: Files<File = File>>(rt: &R, f: &mut String) -> Said {
     if !is_read || is_set(rt, GATE) {
         return Ok(());
     }
-    if head == [0; 32] {
-        return write!(
-            f,
-            "migrate: {JOURNAL} names no plan: none was begun in this folder. Is it the folder of the disks?"
-        );
-    }
-    write!(
-        f,
-        "migrate: {JOURNAL} says that no plan is under way: the last one was closed"
-    )
+    f.push_str(if head == [0; 32] {
+        "migrate: journal.mig names no plan: none was begun in this folder. Is it the folder of the disks?"
+    } else {
+        "migrate: journal.mig says that no plan is under way: the last one was closed"
+    })
 }
 
 /// What is said where another plan is begun.
 pub(crate) fn say_other(f: &mut String, given: &Given<'_>) -> Said {
-    let plan = given.shown("PLAN");
-    write!(
-        f,
-        "migrate: {JOURNAL} says that another plan than {plan} is under way, or was carried out: the one whose SHA-256 is the first number (`sha256sum` shows it)\nmigrate: look first, with that plan and its own three files, which give the same plan again: `after` prints where it leaves the items, and `audit` says whether they are there; `resume` goes on with it; only then `halt` closes it"
+    say!(f; "migrate: {} says that another plan than {} is under way, or was carried out: ", JOURNAL, given.shown("PLAN"))?;
+    f.push_str(
+        "the one whose SHA-256 is the first number (`sha256sum` shows it)\nmigrate: look first, with that plan and its own three files, which give the same plan again: `after` prints where it leaves the items, and `audit` says whether they are there; `resume` goes on with it; only then `halt` closes it",
     )
 }
 
 /// What is said where a plan is begun, which is that of the command if it has one; nothing where it isn't any more.
 pub(crate) fn say_begun<R: Files<File = File>>(rt: &R, f: &mut String, given: &Given<'_>) -> Said {
     if given.word("PLAN").is_none() {
-        return write!(
-            f,
-            "migrate: {JOURNAL} says that a migration is under way here, or was carried out to its end: its items are on the disks\nmigrate: look first: `after` prints where a plan leaves the items, and `audit` says whether they are there; `resume` goes on with a plan that was stopped; only `halt` closes it"
+        return f.push_str(
+            "migrate: journal.mig says that a migration is under way here, or was carried out to its end: its items are on the disks\nmigrate: look first: `after` prints where a plan leaves the items, and `audit` says whether they are there; `resume` goes on with a plan that was stopped; only `halt` closes it",
         );
     }
     let Some(text) = given.file("PLAN") else {
@@ -82,23 +75,29 @@ pub(crate) fn say_begun<R: Files<File = File>>(rt: &R, f: &mut String, given: &G
 }
 
 fn say_marks(f: &mut String, given: &Given<'_>, done: u32, rounds: u32) -> Said {
-    let disks = given.shown("DISKS");
-    let now = given.shown("NOW");
-    let next = given.shown("NEXT");
-    let plan = given.shown("PLAN");
-    let tight = if given.command().ends_with("-tight") {
-        "-tight"
-    } else {
-        ""
-    };
-    if done < rounds {
-        return write!(
-            f,
-            "migrate: {JOURNAL} says that {plan} is under way: {done} of its {rounds} rounds are marked as done\nmigrate: `migrate resume{tight} {disks} {now} {next} {plan}` goes on with it"
-        );
+    if done >= rounds {
+        return say_carried_out(f, given, rounds);
     }
-    write!(
-        f,
-        "migrate: {JOURNAL} says that {plan} was carried out: all of its {rounds} rounds are marked as done\nmigrate: look first, before `halt{tight}` closes it: `migrate after{tight} {disks} {now} {next} {plan}` prints where the items should be now, and `migrate audit {disks} LAYOUT` on what it prints says whether they are"
-    )
+    let (disks, now) = (given.shown("DISKS"), given.shown("NOW"));
+    let (next, plan) = (given.shown("NEXT"), given.shown("PLAN"));
+    let text = "migrate: journal.mig says that {} is under way: {} of its {} rounds are \
+        marked as done\nmigrate: `migrate resume{} {} {} {} {}` goes on with it";
+    say!(f; text, plan, done, rounds, kind_of(given), disks, now, next, plan)
+}
+
+/// The end of the name of each command for a plan of this kind.
+fn kind_of(given: &Given<'_>) -> &'static str {
+    match given.command().ends_with("-tight") {
+        true => "-tight",
+        false => "",
+    }
+}
+
+fn say_carried_out(f: &mut String, given: &Given<'_>, rounds: u32) -> Said {
+    let (disks, now) = (given.shown("DISKS"), given.shown("NOW"));
+    let (next, plan) = (given.shown("NEXT"), given.shown("PLAN"));
+    let text = "migrate: journal.mig says that {} was carried out: all of its {} rounds are \
+        marked as done\nmigrate: look first, before `halt{}` closes it: `migrate after{} {} {} {} {}` prints \
+        where the items should be now, and `migrate audit {} LAYOUT` on what it prints says whether they are";
+    say!(f; text, plan, rounds, kind_of(given), kind_of(given), disks, now, next, plan, disks)
 }

@@ -45,6 +45,16 @@ pub(crate) struct NumberedLine<'a> {
     shifts: u32,
 }
 
+/// Before the first line.
+pub(crate) const START: NumberedLine<'static> = NumberedLine {
+    line: 0,
+    round: 0,
+    place: LineKind::Start,
+    text: None,
+    rounds: 0,
+    shifts: 0,
+};
+
 impl<'a> NumberedLine<'a> {
     /// The word at a place of the line, from 0.
     pub(crate) fn word(&self, place: usize) -> &'a [u8] {
@@ -112,12 +122,19 @@ pub(crate) struct Steps<'a> {
 impl<'a> Steps<'a> {
     /// The first of them as text; no bytes where there is none.
     pub(crate) fn first_text(&self) -> &'a [u8] {
-        self.first.and_then(|step| step.text).unwrap_or(&[])
+        self.first.unwrap_or(START).text.unwrap_or(&[])
     }
 
-    /// The number of its line, 0 where there is none.
-    pub(crate) fn first_line(&self) -> u32 {
-        self.first.map_or(0, |step| step.line)
+    /// Adds a line if it is looked for.
+    fn note(&mut self, step: &NumberedLine<'a>, want: &Want<'_>) {
+        if want.fits(step) {
+            if self.count == 1 {
+                self.second = Some(*step);
+            }
+            self.first = self.first.or(Some(*step));
+            self.last = Some(*step);
+            self.count = self.count.saturating_add(1);
+        }
     }
 }
 
@@ -129,25 +146,12 @@ pub(crate) fn look_for<'a>(text: &'a [u8], want: &Want<'_>) -> Steps<'a> {
         last: None,
         count: 0,
     };
-    let mut step = NumberedLine {
-        line: 0,
-        round: 0,
-        place: LineKind::Start,
-        text: None,
-        rounds: 0,
-        shifts: 0,
-    };
-    let lines = text.split(|b| *b == b'\n').map(|line| Some(line));
-    for line in lines.chain([None]) {
-        step.pass(line);
-        if want.fits(&step) {
-            if found.count == 1 {
-                found.second = Some(step);
-            }
-            found.first = found.first.or(Some(step));
-            found.last = Some(step);
-            found.count = found.count.saturating_add(1);
-        }
+    let mut step = START;
+    for line in text.split(|b| *b == b'\n') {
+        step.pass(Some(line));
+        found.note(&step, want);
     }
+    step.pass(None);
+    found.note(&step, want);
     found
 }

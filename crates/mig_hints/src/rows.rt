@@ -11,6 +11,9 @@ pub(crate) struct NumberedRow<'a> {
     pub(crate) text: &'a [u8],
 }
 
+/// In the place of a row where there is none.
+pub(crate) const NO_ROW: NumberedRow<'static> = NumberedRow { line: 0, text: &[] };
+
 /// The bytes after the byte order mark, if there is one.
 pub(crate) fn without_mark(bytes: &[u8]) -> &[u8] {
     match bytes {
@@ -49,14 +52,14 @@ impl<'a> Typed<'a> {
         None
     }
 
-    /// The line of the first row with this key, 0 where there is none.
-    pub(crate) fn line_of(&self, key: &Key<'_>) -> usize {
-        self.find(key).map_or(0, |row| row.line)
+    /// The first row after the header with this key, or no row.
+    pub(crate) fn listed(&self, key: &Key<'_>) -> NumberedRow<'a> {
+        self.find(key).unwrap_or(NO_ROW)
     }
 
     /// Whether the rows have two limits, as in a disks file whose header has four fields.
     pub(crate) fn has_sides(&self) -> bool {
-        self.row(0).is_some_and(|header| width(header.text) == 4)
+        matches!(self.row(0), Some(header) if width(header.text) == 4)
     }
 }
 

@@ -1,11 +1,11 @@
 //! What a slot of a disk holds, read from the disk's file.
 
-use crate::excerpts::Excerpt;
+use crate::excerpts::Piece::Excerpt;
+use crate::excerpts::{Said, say};
 use crate::files::{is_missing, read_at};
 use crate::made::{HEADER, SLOT};
 use mig_base::Name;
 use std::alloc::AllocError;
-use std::fmt::{self, Display, Formatter};
 use std::fs::File;
 use std::rt::Files;
 
@@ -21,19 +21,18 @@ pub(crate) enum SlotContent {
     NoItem { used: bool },
 }
 
-impl Display for SlotContent {
-    fn fmt<W: fmt::Write>(&self, f: &mut Formatter<W>) -> fmt::Result {
+impl SlotContent {
+    /// Says what it is.
+    pub(crate) fn say(&self, f: &mut String) -> Said {
         match self {
-            SlotContent::NoFile => f.write_str("there is no such file"),
-            SlotContent::Unread => f.write_str("it can't be read"),
-            SlotContent::Zeros => f.write_str("zeros are there"),
-            SlotContent::Item(name) => write!(f, "the item `{}` is there", Excerpt(name.bytes())),
-            SlotContent::NoItem { .. } => f.write_str("bytes are there that are no item"),
+            SlotContent::NoFile => f.push_str(": there is no such file"),
+            SlotContent::Unread => f.push_str(": it can't be read"),
+            SlotContent::Zeros => f.push_str(": zeros are there"),
+            SlotContent::Item(name) => say!(f; ": the item `{}` is there", Excerpt(name.bytes())),
+            SlotContent::NoItem { .. } => f.push_str(": bytes are there that are no item"),
         }
     }
-}
 
-impl SlotContent {
     /// Whether the slot counts as used.
     pub(crate) fn is_used(&self) -> bool {
         matches!(
@@ -55,8 +54,8 @@ pub(crate) fn look<R: Files<File = File> + AllocGlobal>(
     slot: u32,
     bytes: &mut [u8; SLOT],
 ) -> Result<SlotContent, AllocError> {
-    let name = Excerpt(disk.bytes());
-    let file = format!(in rt.alloc(); "{name}.disk")?;
+    let mut file = String::new(rt.alloc());
+    say!(&mut file; "{}.disk", Excerpt(disk.bytes()))?;
     if is_missing(rt, file.as_str()) {
         return Ok(SlotContent::NoFile);
     }

@@ -1,9 +1,10 @@
 //! Status 9: which slot is not as it should be, what it holds, and where to look first.
 
-use crate::excerpts::{Excerpt, Said};
+use crate::excerpts::Piece::Excerpt;
+use crate::excerpts::{Said, say};
 use crate::files::{Given, Typed};
 use crate::made::{SLOT, holds_made};
-use crate::rows::{Key, Rows, field, number_at};
+use crate::rows::{Key, NO_ROW, Rows, field, number_at};
 use crate::slots::{SlotContent, look};
 use mig_base::Name;
 use std::alloc::AllocError;
@@ -17,19 +18,18 @@ fn spot_of(row: &[u8]) -> Option<(Name, u32)> {
 }
 
 fn say_slot(f: &mut String, disk: &Name, slot: u32) -> Said {
-    let disk = Excerpt(disk.bytes());
-    write!(f, "migrate: {disk}.disk, slot {slot}")
+    say!(f; "migrate: {}.disk, slot {}", Excerpt(disk.bytes()), slot)
 }
 
 /// What is at the spot of an item that isn't there; nothing where it is there by now.
-pub(crate) fn say_lost<R: Files<File = File> + AllocGlobal>(
+pub(crate) fn say_lost<'a, R: Files<File = File> + AllocGlobal>(
     rt: &R,
     f: &mut String,
-    given: &Given<'_>,
-    item: &Name,
+    given: &Given<'a>,
+    item: &'a Name,
 ) -> Said {
     let row = given.find("NOW", &Key::First(item.bytes()));
-    let Some((disk, slot)) = row.and_then(|row| spot_of(row.text)) else {
+    let Some((disk, slot)) = spot_of(row.unwrap_or(NO_ROW).text) else {
         return Ok(());
     };
     let mut bytes = [0; SLOT];
@@ -37,14 +37,17 @@ pub(crate) fn say_lost<R: Files<File = File> + AllocGlobal>(
     if held.is_item(item) {
         return Ok(());
     }
-    let item = Excerpt(item.bytes());
-    let disks = given.shown("DISKS");
-    let now = given.shown("NOW");
     say_slot(f, &disk, slot)?;
-    write!(
-        f,
-        ", where {now} lists `{item}`: {held}\nmigrate: look first: `migrate audit {disks} {now}` says of each item whether it is at its spot. Is each disk mounted, and {now} the layout of today?"
-    )
+    say!(f; ", where {} lists `{}`", given.shown("NOW"), Excerpt(item.bytes()))?;
+    held.say(f)?;
+    say_look(f, given)?;
+    say!(f; "Is each disk mounted, and {} the layout of today?", given.shown("NOW"))
+}
+
+/// Where to look first.
+fn say_look(f: &mut String, given: &Given<'_>) -> Said {
+    let (disks, now) = (given.shown("DISKS"), given.shown("NOW"));
+    say!(f; "\nmigrate: look first: `migrate audit {} {}` says of each item whether it is at its spot. ", disks, now)
 }
 
 /// What is in a slot that should be free; nothing where it is free by now.
@@ -61,28 +64,34 @@ pub(crate) fn say_used<R: Files<File = File> + AllocGlobal>(
         return Ok(());
     }
     say_slot(f, disk, slot)?;
-    let disks = given.shown("DISKS");
-    let now = given.shown("NOW");
-    if given.command() == "fill" {
-        write!(f, ": {held}")?;
-        let Some(listed) = given.file("NOW") else {
-            return Ok(());
-        };
-        let (used, made) = count_used(rt, &listed)?;
-        let kind = if used == made {
-            "All of them hold just what `fill` writes there: a `fill` that was stopped, or done before?"
-        } else {
-            "Not all of them hold what `fill` writes there: the store is in use, and `fill` overwrites nothing."
-        };
-        return write!(
-            f,
-            "\nmigrate: slots of {now} in use: {used}. {kind} `migrate audit {disks} {now}` shows them"
-        );
+    match given.file("NOW") {
+        _ if given.command() != "fill" => say_taken(f, given, &held),
+        Some(now) => say_filled(f, given, &held, count_used(rt, &now)?),
+        None => held.say(f),
     }
-    write!(
-        f,
-        ", to which the plan moves an item: {held}, and {now} lists none\nmigrate: look first: `migrate audit {disks} {now}` says of each item whether it is at its spot. List what is there in {now} and plan again, or clear the slot"
-    )
+}
+
+/// What is in a slot to which a plan moves an item.
+fn say_taken(f: &mut String, given: &Given<'_>, held: &SlotContent) -> Said {
+    let now = given.shown("NOW");
+    f.push_str(", to which the plan moves an item")?;
+    held.say(f)?;
+    say!(f; ", and {} lists none", now)?;
+    say_look(f, given)?;
+    say!(f; "List what is there in {} and plan again, or clear the slot", now)
+}
+
+/// What is in a slot that `fill` would write, and how many slots are used and made.
+fn say_filled(f: &mut String, given: &Given<'_>, held: &SlotContent, counts: (u32, u32)) -> Said {
+    let (disks, now) = (given.shown("DISKS"), given.shown("NOW"));
+    let (used, made) = counts;
+    held.say(f)?;
+    let why = if used == made {
+        "All of them hold just what `fill` writes there: a `fill` that was stopped, or done before?"
+    } else {
+        "Not all of them hold what `fill` writes there: the store is in use, and `fill` overwrites nothing."
+    };
+    say!(f; "\nmigrate: slots of {} in use: {}. {} `migrate audit {} {}` shows them", now, used, why, disks, now)
 }
 
 /// How many of the listed slots are used, and how many hold just what `fill` writes there.

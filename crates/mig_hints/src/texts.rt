@@ -1,7 +1,8 @@
 //! Which line of a plan, a certificate or a script is refused, and what was expected there.
 
 use crate::certs::say_cert_line;
-use crate::excerpts::{Excerpt, Said, point, point_whole};
+use crate::excerpts::Piece::Excerpt;
+use crate::excerpts::{Said, point, point_whole, say};
 use crate::files::Given;
 use crate::plans::{LineKind, Want, line_at, look_for, word_at};
 use crate::rows::Key;
@@ -20,7 +21,7 @@ pub(crate) fn say_text(f: &mut String, given: &Given<'_>, text: &TextFile, numbe
     };
     if number == 0 {
         point_whole(f, typed.word)?;
-        return write!(f, "the text has more than {MAX_FILE_BYTES} bytes");
+        return say!(f; "the text has more than {} bytes", MAX_FILE_BYTES);
     }
     let line = line_at(typed.bytes, number);
     let shown = line.unwrap_or(b"(the text ends before it)".as_slice());
@@ -58,17 +59,10 @@ fn say_plan_line(f: &mut String, given: &Given<'_>, text: &[u8], number: u32) ->
         LineKind::Start | LineKind::Title => f.push_str(
             "a plan begins with the line `migration-plan 1`: is this the file of PLAN?",
         ),
-        LineKind::Count => write!(
-            f,
-            "wanted is `rounds R`, the number of the plan's rounds, at most {MAX_ROUNDS}"
-        ),
-        LineKind::Head => {
-            let round = step.round;
-            write!(
-                f,
-                "wanted is `round {round} C`, C the number of the lines that follow for it, at most {MAX_SHIFTS}"
-            )
-        }
+        LineKind::Count =>
+            say!(f; "wanted is `rounds R`, the number of the plan's rounds, at most {}", MAX_ROUNDS),
+        LineKind::Head =>
+            say!(f; "wanted is `round {} C`, C the number of the lines that follow for it, at most {}", step.round, MAX_SHIFTS),
         LineKind::Shift => say_shift(f, given, step.text.unwrap_or(&[])),
         LineKind::End => f.push_str("wanted is the line `end`: all rounds were there"),
         LineKind::Nothing => f.push_str(after_end(step.text)),
@@ -87,28 +81,26 @@ pub(crate) fn after_end(line: Option<&[u8]>) -> &'static str {
 fn say_shift(f: &mut String, given: &Given<'_>, line: &[u8]) -> Said {
     for place in 0..5 {
         let name = word_at(line, place);
-        let word = Excerpt(name);
-        let (role, kind) = match place {
+        let role = match place {
             _ if name.is_empty() => continue,
-            0 => ("NOW", "item"),
-            1 | 3 => ("DISKS", "disk"),
+            0 => "NOW",
+            1 | 3 => "DISKS",
             _ if is_slot(name) => continue,
             _ => {
-                let last = MAX_SLOTS - 1;
-                return write!(
-                    f,
-                    "`{word}` is no slot: 0 to {last}, without a leading zero"
-                );
+                return say!(f; "`{}` is no slot: 0 to {}, without a leading zero", Excerpt(name), MAX_SLOTS - 1);
             }
         };
-        if given
-            .file(role)
-            .is_some_and(|list| list.find(&Key::First(name)).is_none())
-        {
-            return write!(f, "{} lists no {kind} `{word}`", given.shown(role));
+        if given.file(role).is_some() && given.find(role, &Key::First(name)).is_none() {
+            return say_unlisted(f, given, role, name);
         }
     }
     f.push_str("wanted is a shift: ITEM FROM FROMSLOT TO TOSLOT, with one blank between two words")
+}
+
+fn say_unlisted(f: &mut String, given: &Given<'_>, role: &'static str, name: &[u8]) -> Said {
+    let kind = if role == "NOW" { "item" } else { "disk" };
+    say!(f; "{} lists no ", given.shown(role))?;
+    say!(f; "{} `{}`", kind, Excerpt(name))
 }
 
 fn is_slot(word: &[u8]) -> bool {

@@ -1,7 +1,8 @@
 //! Status 2: why the words are no command.
 
 use crate::commands::{is_saved, row_of};
-use crate::excerpts::{Excerpt, Said};
+use crate::excerpts::Piece::Excerpt;
+use crate::excerpts::{Said, say};
 use crate::names::say_no_name;
 use mig_base::{MAX_DISKS, MAX_ITEMS, MAX_LIMIT, Name, read_digits};
 use mig_words::{CommandRow, ROWS};
@@ -51,11 +52,9 @@ pub(crate) fn say_words(alloc: Global, f: &mut String, words: &[String]) -> Said
 fn say_unknown(f: &mut String, word: &str, nearest: Option<&'static str>) -> Said {
     let shown = Excerpt(word.as_bytes());
     match nearest {
-        Some(command) => write!(f, "`{shown}` is no command; is it `{command}`?"),
-        None if is_option(word) => {
-            write!(f, "`{shown}` is no command, and there are no options")
-        }
-        None => write!(f, "`{shown}` is no command"),
+        Some(command) => say!(f; "`{}` is no command; is it `{}`?", shown, command),
+        None if is_option(word) => say!(f; "`{}` is no command, and there are no options", shown),
+        None => say!(f; "`{}` is no command", shown),
     }
 }
 
@@ -66,24 +65,17 @@ fn is_option(word: &str) -> bool {
 
 /// Too few words or too many.
 fn say_count(f: &mut String, row: &CommandRow, given: &[String]) -> Said {
-    let mut typed = given.iter().map(|word| word.as_str());
-    if let Some(option) = typed.find(|word| is_option(word)) {
-        let option = Excerpt(option.as_bytes());
-        return write!(f, "there are no options; `{option}` is one");
+    for word in given {
+        if is_option(word.as_str()) {
+            return say!(f; "there are no options; `{}` is one", Excerpt(word.as_bytes()));
+        }
     }
-    let command = row.word;
-    let wanted = row.roles.len();
-    let count = given.len();
-    write!(
-        f,
-        "`{command}` is followed by {wanted} words, and here by {count}: "
-    )?;
-    if let Some(role) = row.roles.get(count) {
-        return write!(f, "{role} is missing");
-    }
-    match given.get(wanted) {
-        Some(word) => write!(f, "`{}` is too many", Excerpt(word.as_bytes())),
-        None => Ok(()),
+    let (wanted, count) = (row.roles.len(), given.len());
+    say!(f; "`{}` is followed by {} words, and here by {}: ", row.word, wanted, count)?;
+    match (row.roles.get(count), given.get(wanted)) {
+        (Some(role), _) => say!(f; "{} is missing", *role),
+        (None, Some(word)) => say!(f; "`{}` is too many", Excerpt(word.as_bytes())),
+        (None, None) => Ok(()),
     }
 }
 
@@ -95,13 +87,11 @@ fn say_files(f: &mut String, row: &CommandRow, given: &[String]) -> Said {
         match *role {
             "NAME" if Name::read(bytes).is_none() => return say_no_name(f, "disk", bytes),
             "NAME" => {}
-            _ if length == 0 => return write!(f, "the word for {role} is empty"),
-            _ if length > 255 => {
-                let most = "and a file's name at most 255";
-                return write!(f, "the word for {role} has {length} bytes, {most}");
-            }
+            _ if length == 0 => return say!(f; "the word for {} is empty", *role),
+            _ if length > 255 =>
+                return say!(f; "the word for {} has {} bytes, and a file's name at most 255", *role, length),
             _ if bytes.ends_with(b".disk") || bytes.ends_with(b".mig") => {
-                write!(f, "`{}`, the word for {role}, ", Excerpt(bytes))?;
+                say!(f; "`{}`, the word for {}, ", Excerpt(bytes), *role)?;
                 return f.push_str(
                     "is named as a disk's file or the journal: it may end neither in .disk nor in .mig",
                 );
@@ -117,15 +107,9 @@ fn say_pair(f: &mut String, row: &CommandRow, given: &[String]) -> Said {
     for (role, word) in row.roles.iter().zip(given) {
         let mut named = row.roles.iter().zip(given);
         let same = named.find(|(other, that)| *other != role && that.as_str() == word.as_str());
-        if !is_saved(row, role) {
-            continue;
-        }
-        if let Some((other, _)) = same {
+        if let (true, Some((other, _))) = (is_saved(row, role), same) {
             let word = Excerpt(word.as_bytes());
-            return write!(
-                f,
-                "`{word}` is the word for {role} and for {other}, and {role} is saved: the two must differ"
-            );
+            return say!(f; "`{}` is the word for {} and for {}, and {} is saved: the two must differ", word, *role, *other, *role);
         }
     }
     f.push_str("the words are no command")
@@ -135,30 +119,24 @@ fn say_pair(f: &mut String, row: &CommandRow, given: &[String]) -> Said {
 fn say_case(f: &mut String, row: &CommandRow, given: &[String]) -> Said {
     for (role, word) in row.roles.iter().zip(given) {
         if read_digits(word.as_bytes()).is_none() {
-            let word = Excerpt(word.as_bytes());
-            return write!(
-                f,
-                "{role} is `{word}`, and must be 1 to 10 digits, nothing else"
-            );
+            return say!(f; "{} is `{}`, and must be 1 to 10 digits, nothing else", *role, Excerpt(word.as_bytes()));
         }
     }
     let n = number_in(given, 0);
     let most = number_in(given, 2);
     if n < 2 || n > MAX_DISKS as u64 {
-        return write!(f, "N is {n}, and must be 2 to {MAX_DISKS}");
+        return say!(f; "N is {}, and must be 2 to {}", n, MAX_DISKS);
     }
     if most < 1 || most > u64::from(MAX_LIMIT) {
-        return write!(f, "LIMIT is {most}, and must be 1 to {MAX_LIMIT}");
+        return say!(f; "LIMIT is {}, and must be 1 to {}", most, MAX_LIMIT);
     }
     let items = n.saturating_mul(n - 1).saturating_mul(number_in(given, 1));
-    write!(
-        f,
-        "N times N - 1 times PERPAIR is {items}, and must be 1 to {MAX_ITEMS}"
-    )
+    say!(f; "N times N - 1 times PERPAIR is {}, and must be 1 to {}", items, MAX_ITEMS)
 }
 
 fn number_in(given: &[String], place: usize) -> u64 {
-    let word = given.get(place);
-    word.and_then(|word| read_digits(word.as_bytes()))
-        .unwrap_or(0)
+    match given.get(place) {
+        Some(word) => read_digits(word.as_bytes()).unwrap_or(0),
+        None => 0,
+    }
 }
