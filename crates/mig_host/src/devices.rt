@@ -16,7 +16,12 @@ pub struct DevicePart {
 impl DevicePart {
     /// Whether it has bytes of one of these. Two partitions of a disk have bytes of one file, and none in common.
     pub fn overlaps(&self, others: &[DevicePart]) -> bool {
-        others.iter().any(|other| self.node == other.node && (self.whole || other.whole))
+        for other in others {
+            if self.node == other.node && (self.whole || other.whole) {
+                return true;
+            }
+        }
+        false
     }
 }
 
@@ -32,10 +37,10 @@ pub struct Device {
 pub fn find_device<S: System>(sys: &S, number: u64) -> io::Result<Device> {
     let (major, minor) = major_and_minor(number);
     let folder = format!(in sys.alloc(); "/sys/dev/block/{major}:{minor}")?;
-    look_up(sys, folder.as_str()).map_err(|error| unless_told(
-        error,
-        "what the system tells of the device can't be read",
-    ))
+    match look_up(sys, folder.as_str()) {
+        Ok(device) => Ok(device),
+        Err(error) => Err(unless_told(error, "what the system tells of the device can't be read")),
+    }
 }
 
 fn look_up<S: System>(sys: &S, folder: &str) -> io::Result<Device> {
@@ -93,8 +98,7 @@ fn note_use<S: System>(sys: &S, folder: &str, numbers: &mut Vec<u64>) -> io::Res
 }
 
 fn is_partition<S: System>(sys: &S, folder: &str) -> io::Result<bool> {
-    let path = path_in(sys.alloc(), folder, "partition")?;
-    Ok(text_if_there(sys, path.as_str())?.is_some())
+    Ok(text_if_there(sys, folder, "partition")?.is_some())
 }
 
 /// The number of a device, which a file of the folder tells.
@@ -130,8 +134,7 @@ const MOST_LAYERS: usize = 1024;
 /// The parts of a device: those of which all bytes are its own, and those that it has some bytes of, as the disk of a partition.
 fn parts_of<S: System>(sys: &S, folder: &str) -> io::Result<Vec<DevicePart>> {
     let mut parts = Vec::new(sys.alloc());
-    let mut folders = Vec::new(sys.alloc());
-    folders.push(path_in(sys.alloc(), folder, ".")?)?;
+    let mut folders = vec![in sys.alloc(); path_in(sys.alloc(), folder, ".")?]?;
     note_layers(sys, &mut folders, &mut parts)?;
     Ok(parts)
 }
@@ -161,8 +164,7 @@ fn note_parts<S: System>(
     let number = number_in(sys, folder, "dev")?;
     let node = FileIdentity::Device { number };
     parts.push(DevicePart { node, whole })?;
-    let path = path_in(sys.alloc(), folder, "loop/backing_file")?;
-    match text_if_there(sys, path.as_str())? {
+    match text_if_there(sys, folder, "loop/backing_file")? {
         Some(told) => note_file(sys, told.trim_end_matches('\n'), whole, parts),
         None => Ok(()),
     }

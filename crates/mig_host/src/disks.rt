@@ -2,7 +2,7 @@
 ghost use Rattle.std.specs.Prelude.{◌≡◌, ◌⊎◌, ◌≤◌, ◌<◌, IsTrue, IsFalse, IfOk, IfSome, OnOk, length};
 ghost use Rattle.mig_host.specs.Systems.{AreNamed, Finds, Goes, IsOwn, Led, disk_path};
 
-use crate::failures::{Failure, too_many_open};
+use crate::failures::{Failure, of_sync, too_many_open};
 use crate::identity::{check_name, exchanged, is_link};
 use crate::journal::Journal;
 use crate::opened::{Opened, open_again, open_to_read, open_to_write, take};
@@ -72,9 +72,10 @@ impl<S: System> Disks<S> {
         let Some(opened) = self.to_read(sys, journal, name)? else {
             return Ok(0);
         };
-        opened
-            .read_at(sys, offset, into)
-            .map_err(|error| Failure::OfDisk(*name, error))
+        match opened.read_at(sys, offset, into) {
+            Ok(count) => Ok(count),
+            Err(error) => Err(Failure::OfDisk(*name, error)),
+        }
     }
 
     /// How many bytes a disk's file has. A link that leads nowhere is a file that isn't there.
@@ -134,18 +135,13 @@ impl<S: System> Disks<S> {
         let Some(opened) = self.to_read(sys, journal, name)? else {
             return Ok(());
         };
-        opened
-            .sync(sys)
-            .map_err(|error| Failure::OfSync(Some(Place::Disk(*name)), error))?;
+        of_sync(opened.sync(sys), Some(Place::Disk(*name)))?;
         let (node, linked) = (opened.node, opened.linked);
         let files = match linked {
             true => &mut self.linked,
             false => &mut self.synced,
         };
-        match files.insert(*name, node) {
-            Ok(_) => Ok(()),
-            Err(_) => Err(Failure::memory(*name)),
-        }
+        stored(name, files.insert(*name, node))
     }
 
     /// Whether a disk was written since the journal was.
@@ -201,14 +197,15 @@ impl<S: System> Disks<S> {
             Some((_, opened)) if journal.is_claimed() && !opened.is_steady() => {
                 Err(Failure::OfDisk(*name, exchanged()))
             }
-            found => Ok(found.map(|(_, opened)| opened)),
+            Some((_, opened)) => Ok(Some(opened)),
+            None => Ok(None),
         }
     }
 
     /// Opens the disk's file for writing too, for this process alone, where it is open for reading. One that can't be written is left as it is.
     fn lock_open(&mut self, sys: &mut S, name: &Name, place: usize) -> Result<(), Failure> {
         let found = self.open.get_index(place);
-        if found.is_none_or(|(_, opened)| opened.is_steady()) {
+        if !matches!(found, Some((_, opened)) if !opened.is_steady()) {
             return Ok(());
         }
         match self.find_to_write(sys, name) {
@@ -228,13 +225,13 @@ impl<S: System> Disks<S> {
         &mut self,
         sys: &mut S,
         name: &Name,
-        opened: Opened<S>,
+        mut opened: Opened<S>,
         made: bool,
     ) -> Result<(), Failure>
         ensures goes { Goes (S.System.state sys.old) (S.System.state sys.new) }
     {
-        let mut opened = opened;
-        match take_disk(sys, name, &mut opened, self.mode.filter(|_| made)) {
+        let mode = if made { self.mode } else { None };
+        match take_disk(sys, name, &mut opened, mode) {
             Ok(()) => self.keep(name, opened),
             Err(error) => Err(Failure::OfDisk(*name, error)),
         }
@@ -243,7 +240,7 @@ impl<S: System> Disks<S> {
     /// The place of the disk's file among those that are open.
     fn find(&mut self, name: &Name) -> Option<usize> {
         let recent = self.open.get_index(self.recent);
-        if !recent.is_some_and(|(disk, _)| disk == name) {
+        if !matches!(recent, Some((disk, _)) if disk == name) {
             self.recent = self.open.get_index_of(name)?;
         }
         Some(self.recent)
@@ -278,10 +275,7 @@ impl<S: System> Disks<S> {
                 self.mode = self.mode.or(Some(opened.mode));
                 self.keep(name, opened)
             }
-            Ok(None) => match self.absent.insert(*name) {
-                Ok(_) => Ok(()),
-                Err(_) => Err(Failure::memory(*name)),
-            },
+            Ok(None) => stored(name, self.absent.insert(*name)),
             Err(error) => Err(Failure::OfDisk(*name, error)),
         }
     }
@@ -297,13 +291,14 @@ impl<S: System> Disks<S> {
     {
         if let Some(place) = self.find(name) {
             let found = self.open.get_index(place);
-            if found.is_some_and(|(_, opened)| opened.is_taken()) {
+            if matches!(found, Some((_, opened)) if opened.is_taken()) {
                 return Ok(false);
             }
         }
-        let (opened, made) = self
-            .find_to_write(sys, name)
-            .map_err(|error| Failure::OfDisk(*name, error))?;
+        let (opened, made) = match self.find_to_write(sys, name) {
+            Ok(found) => found,
+            Err(error) => return Err(Failure::OfDisk(*name, error)),
+        };
         self.identify(journal, name, &opened)?;
         if !made && self.absent.contains(name) {
             return Err(Failure::OfDisk(*name, exchanged()));
@@ -342,13 +337,15 @@ impl<S: System> Disks<S> {
 
     /// Two descriptors stay free for another part of the process, where another disk's file is open that could be closed.
     fn check_spare(&self, sys: &S, name: &Name) -> io::Result<()> {
-        let Some((_, opened)) = self.open.iter().find(|(other, _)| *other != name) else {
-            return Ok(());
-        };
-        if opened.leaves_some(sys) {
-            return Ok(());
+        for (other, opened) in self.open.iter() {
+            if other != name {
+                if opened.leaves_some(sys) {
+                    return Ok(());
+                }
+                return Err(too_many_open());
+            }
         }
-        Err(too_many_open())
+        Ok(())
     }
 
     /// Notes which file the disk is, and refuses one that is another disk's or the journal's.
@@ -364,10 +361,7 @@ impl<S: System> Disks<S> {
         for part in opened.parts.iter() {
             self.note_owner(name, part.node, part.whole)?;
         }
-        match self.known.insert(*name, opened.node) {
-            Ok(_) => Ok(()),
-            Err(_) => Err(Failure::memory(*name)),
-        }
+        stored(name, self.known.insert(*name, opened.node))
     }
 
     /// Notes that a disk has a file, or a part of it. Two of them may have parts of one file.
@@ -379,18 +373,20 @@ impl<S: System> Disks<S> {
             Some(_) => return Ok(()),
             None => {}
         }
-        match self.owners.insert(node, (*name, whole)) {
-            Ok(_) => Ok(()),
-            Err(_) => Err(Failure::memory(*name)),
-        }
+        stored(name, self.owners.insert(node, (*name, whole)))
     }
 
     /// Keeps a file open.
     fn keep(&mut self, name: &Name, opened: Opened<S>) -> Result<(), Failure> {
-        match self.open.insert(*name, opened) {
-            Ok(_) => Ok(()),
-            Err(_) => Err(Failure::memory(*name)),
-        }
+        stored(name, self.open.insert(*name, opened))
+    }
+}
+
+/// Whether memory was there for what is kept of a disk.
+fn stored<T: Drop, E: Drop>(name: &Name, made: Result<T, E>) -> Result<(), Failure> {
+    match made {
+        Ok(_) => Ok(()),
+        Err(_) => Err(Failure::memory(*name)),
     }
 }
 
@@ -418,8 +414,7 @@ fn take_disk<S: System>(
     ensures taken { OnOk result (IsTrue opened.new.taken) }
     ensures goes { Goes (S.System.state sys.old) (S.System.state sys.new) }
 {
-    let path = path_of(sys.alloc(), name)?;
-    take(sys, path.as_str(), opened)?;
+    take(sys, path_of(sys.alloc(), name)?.as_str(), opened)?;
     match mode {
         Some(mode) => opened.set_mode(sys, mode),
         None => Ok(()),

@@ -34,20 +34,20 @@ impl Failure {
         Failure::OfDisk(name, ErrorKind::OutOfMemory.into())
     }
 
-    /// The system's error, where there is one.
-    fn error(&self) -> Option<io::Error> {
+    /// The system's error, and one of no kind where there is none.
+    fn error(&self) -> io::Error {
         match self {
             Failure::OfDisk(_, error)
             | Failure::OfJournal(error)
             | Failure::OfFolder(error)
-            | Failure::OfSync(_, error) => Some(*error),
-            Failure::Unsynced(_) | Failure::OneFile(..) | Failure::IsJournal(_) => None,
+            | Failure::OfSync(_, error) => *error,
+            _ => ErrorKind::Other.into(),
         }
     }
 
     /// Whether it came of this kind.
     fn is_of(&self, kind: ErrorKind) -> bool {
-        self.error().is_some_and(|error| error.kind() == kind)
+        self.error().kind() == kind
     }
 
     /// Whether a file isn't there.
@@ -62,8 +62,15 @@ impl Failure {
 
     /// Whether too many files are open.
     pub fn is_full(&self) -> bool {
-        self.error()
-            .is_some_and(|error| error.raw_os_error() == Some(TOO_MANY_OPEN))
+        self.error().raw_os_error() == Some(TOO_MANY_OPEN)
+    }
+}
+
+/// What a sync gave.
+pub fn of_sync(made: io::Result<()>, place: Option<Place>) -> Result<(), Failure> {
+    match made {
+        Ok(()) => Ok(()),
+        Err(error) => Err(Failure::OfSync(place, error)),
     }
 }
 
@@ -87,10 +94,7 @@ impl Display for Failure {
             Failure::OfDisk(name, error) => write_error(f, &Some(Place::Disk(*name)), *error),
             Failure::OfJournal(error) => write_error(f, &Some(Place::Journal), *error),
             Failure::OfFolder(error) => write_error(f, &None, *error),
-            Failure::OfSync(place, error) => {
-                write_error(f, place, *error)?;
-                write!(f, ": {ANEW}")
-            }
+            Failure::OfSync(place, error) => write!(f, "{}: {error}: {ANEW}", FileOf(place)),
             Failure::Unsynced(place) => {
                 write!(f, "{}: a sync of it has failed: {ANEW}", FileOf(place))
             }

@@ -3,7 +3,7 @@ ghost use Rattle.std.specs.Prelude.{◌≤◌, ◌<◌, IsTrue, IfOk, IfSome, On
 ghost use Rattle.mig_host.specs.Systems.{Absent, Finds, Goes, IsLookedAt, note_path};
 
 use crate::disks::Disks;
-use crate::failures::Failure;
+use crate::failures::{Failure, of_sync};
 use crate::journal::Journal;
 use crate::system::{Access, System};
 use crate::texts::JOURNAL;
@@ -58,9 +58,7 @@ pub fn write_journal<S: System>(
 pub fn sync_names<S: System>(sys: &mut S, folder: &mut Option<S::File>) -> Result<(), Failure> {
     open_folder(sys, folder)?;
     let synced = match folder {
-        Some(folder) => sys
-            .sync_all(folder)
-            .map_err(|error| Failure::OfSync(None, error)),
+        Some(folder) => of_sync(sys.sync_all(folder), None),
         None => Ok(()),
     };
     noted(sys, synced)

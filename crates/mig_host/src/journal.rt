@@ -2,7 +2,7 @@
 ghost use Rattle.std.specs.Prelude.{◌≡◌, ◌≤◌, ◌<◌, IsTrue, IsFalse, IfOk, IfSome, IsSomeAnd, OnOk, length};
 ghost use Rattle.mig_host.specs.Systems.{Goes, IsLookedAt, IsOwn};
 
-use crate::failures::Failure;
+use crate::failures::{Failure, of_sync};
 use crate::opened::{Opened, check_taken, open_to_read, open_to_write, take};
 use crate::system::System;
 use crate::texts::JOURNAL;
@@ -28,9 +28,7 @@ impl<S: System> Journal<S> {
 
     /// Whether another file has bytes in common with it.
     pub fn overlaps(&self, opened: &Opened<S>) -> bool {
-        self.opened
-            .as_ref()
-            .is_some_and(|file| file.overlaps(opened))
+        matches!(&self.opened, Some(file) if file.overlaps(opened))
     }
 
     /// Takes the file for this process alone until it ends, and makes it where it isn't there. It is refused where another process has it.
@@ -117,9 +115,7 @@ impl<S: System> Journal<S> {
     /// Brings all that was written to the file to the device.
     pub fn sync(&self, sys: &mut S) -> Result<(), Failure> {
         match &self.opened {
-            Some(opened) => opened
-                .sync(sys)
-                .map_err(|error| Failure::OfSync(Some(Place::Journal), error)),
+            Some(opened) => of_sync(opened.sync(sys), Some(Place::Journal)),
             None => Ok(()),
         }
     }

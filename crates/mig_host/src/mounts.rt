@@ -48,7 +48,7 @@ fn check_lines<S: System>(sys: &S, text: &str, numbers: &[u64], table: u64) -> i
 
 /// Whether one of the devices is mounted: a file system has its number, or a number of its own, and then the path that was mounted tells.
 fn names_one<S: System>(sys: &S, mount: &Mount<'_>, numbers: &[u64]) -> io::Result<bool> {
-    if number_of(mount.number).is_some_and(|number| numbers.contains(&number)) {
+    if matches!(number_of(mount.number), Some(number) if numbers.contains(&number)) {
         return Ok(true);
     }
     if !mount.number.starts_with("0:") || !mount.source.starts_with('/') {
@@ -58,11 +58,8 @@ fn names_one<S: System>(sys: &S, mount: &Mount<'_>, numbers: &[u64]) -> io::Resu
     if source.as_str().contains('\u{fffd}') {
         return Err(Error::other("the table of mounts has a path that is no text"));
     }
-    Ok(
-        sys.entry(source.as_str()).is_ok_and(|found| {
-            found.kind == Kind::Device && numbers.contains(&found.number)
-        }),
-    )
+    let found = sys.entry(source.as_str());
+    Ok(matches!(found, Ok(found) if found.kind == Kind::Device && numbers.contains(&found.number)))
 }
 
 /// The path that a word of the table stands for: a blank is `\040` there, and a few other bytes are written so.

@@ -160,8 +160,7 @@ fn look_at<S: System>(sys: &S, file: S::File) -> io::Result<Opened<S>>
         FileIdentity::Plain { .. } => stat.len,
         FileIdentity::Device { .. } => sys.end(&file)?,
     };
-    let mut parts = Vec::new(sys.alloc());
-    parts.push(DevicePart { node, whole: true })?;
+    let parts = vec![in sys.alloc(); DevicePart { node, whole: true }]?;
     Ok(Opened {
         file,
         taken: false,
@@ -239,7 +238,12 @@ impl<S: System> Opened<S> {
 
     /// Whether both have bytes in common.
     pub fn overlaps(&self, other: &Opened<S>) -> bool {
-        self.parts.iter().any(|part| part.overlaps(&other.parts))
+        for part in self.parts.iter() {
+            if part.overlaps(&other.parts) {
+                return true;
+            }
+        }
+        false
     }
 
     /// Whether this process may open three files: the next one, and two that another part of it may need.

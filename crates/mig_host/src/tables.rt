@@ -27,15 +27,6 @@ pub fn text_at<S: System>(sys: &S, path: &str) -> io::Result<String> {
     text_of(sys.alloc(), &mut file)
 }
 
-/// The same of a file that may be missing.
-pub fn text_if_there<S: System>(sys: &S, path: &str) -> io::Result<Option<String>> {
-    match text_at(sys, path) {
-        Ok(text) => Ok(Some(text)),
-        Err(error) if is_nowhere(&error) => Ok(None),
-        Err(error) => Err(error),
-    }
-}
-
 /// The path of what has this name in a folder.
 pub fn path_in(alloc: Global, folder: &str, name: &str) -> io::Result<String> {
     Ok(format!(in alloc; "{folder}/{name}")?)
@@ -43,8 +34,16 @@ pub fn path_in(alloc: Global, folder: &str, name: &str) -> io::Result<String> {
 
 /// The text of a file in a folder.
 pub fn text_in<S: System>(sys: &S, folder: &str, name: &str) -> io::Result<String> {
-    let path = path_in(sys.alloc(), folder, name)?;
-    text_at(sys, path.as_str())
+    text_at(sys, path_in(sys.alloc(), folder, name)?.as_str())
+}
+
+/// The same of a file that may be missing.
+pub fn text_if_there<S: System>(sys: &S, folder: &str, name: &str) -> io::Result<Option<String>> {
+    match text_in(sys, folder, name) {
+        Ok(text) => Ok(Some(text)),
+        Err(error) if is_nowhere(&error) => Ok(None),
+        Err(error) => Err(error),
+    }
 }
 
 /// Adds the paths of what stands in a folder of another one, if it is there. A link is followed.
@@ -56,9 +55,13 @@ pub fn list<S: System>(
 ) -> io::Result<()> {
     let folder = path_in(sys.alloc(), folder, name)?;
     let names = names_in(sys, folder.as_str())?;
+    note_names(sys.alloc(), folder.as_str(), names.as_str(), paths)
+}
+
+fn note_names(alloc: Global, at: &str, names: &str, paths: &mut Vec<String>) -> io::Result<()> {
     for name in names.split('\0') {
         if !matches!(name, "" | "." | "..") {
-            paths.push(path_in(sys.alloc(), folder.as_str(), name)?)?;
+            paths.push(path_in(alloc, at, name)?)?;
         }
     }
     Ok(())

@@ -139,12 +139,8 @@ fn write_item<W: fmt::Write>(
     what: &str,
     look: &str,
 ) -> fmt::Result {
-    write!(
-        f,
-        "{} {should} item {}, {what}: {look}",
-        SlotOf(slot),
-        Called(item)
-    )
+    let (slot, item) = (SlotOf(slot), Called(item));
+    write!(f, "{slot} {should} item {item}, {what}: {look}")
 }
 
 fn write_differing<W: fmt::Write>(
@@ -153,12 +149,10 @@ fn write_differing<W: fmt::Write>(
     other: &Cell,
     item: &Name,
 ) -> fmt::Result {
+    let (slot, other, item) = (SlotOf(slot), SlotOf(other), Called(item));
     write!(
         f,
-        "{} was copied to {}, and both hold item {}, but differ: which of them is right?",
-        SlotOf(slot),
-        SlotOf(other),
-        Called(item)
+        "{slot} was copied to {other}, and both hold item {item}, but differ: which of them is right?"
     )
 }
 

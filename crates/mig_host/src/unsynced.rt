@@ -13,18 +13,15 @@ use std::io::{self, Write};
 /// The note's file: a line with the machine's boot and the file whose sync failed.
 const NOTE: &str = "unsynced.mig";
 
-/// What tells one boot of the machine from another.
-const BOOT: &str = "/proc/sys/kernel/random/boot_id";
-
-/// The boot's line; none where the system doesn't tell, so that each note counts as this boot's.
+/// What tells one boot of the machine from another, a line; none where the system doesn't tell, so that each note counts as this boot's.
 fn boot<S: System>(sys: &S) -> io::Result<String> {
-    Ok(text_if_there(sys, BOOT)?.unwrap_or(String::new(sys.alloc())))
+    let told = text_if_there(sys, "/proc/sys/kernel/random", "boot_id")?;
+    Ok(told.unwrap_or(String::new(sys.alloc())))
 }
 
 /// Notes a sync that failed.
 pub fn note<S: System>(sys: &mut S, place: &Option<Place>) -> io::Result<()> {
-    let boot = boot(sys)?;
-    let line = format!(in sys.alloc(); "{} {}\n", boot.trim_end(), FileOf(place))?;
+    let line = format!(in sys.alloc(); "{} {}\n", boot(sys)?.trim_end(), FileOf(place))?;
     write_note(sys, line.as_bytes())
 }
 
