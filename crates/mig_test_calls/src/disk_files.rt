@@ -1,15 +1,15 @@
 //! The store over files: what a new store reads, many disks, and what is refused; over real files, and over files in memory.
 
-use crate::file_stores::{crashed, mem_store, real_store};
-use crate::work_folder::{enter, leave};
+use crate::file_stores::{crashed, real_store, store_over};
+use crate::work_folder::{enter, is_absent, leave};
 use mig_base::{Cell, Name};
 use mig_calls::{CallTrouble, Calls, FilePick, MemCalls};
 use mig_files::{FileStore, MOST_OPEN};
 use mig_store::Store;
-use std::fs;
+use std::fs::{self, File};
 use std::os::unix::fs::symlink;
-use std::panic::Expect;
 use std::process::Abort;
+use std::rt::Files;
 
 /// A slot of the disk with this name.
 fn slot_of(name: &[u8], slot: u32) -> Cell {
@@ -30,75 +30,68 @@ fn has<C: Calls>(store: &mut FileStore<C>, cell: &Cell, byte: u8) -> bool {
     cell.len() == 4096 && store.read(cell, &mut bytes).is_ok() && bytes == [byte; 4096]
 }
 
-/// Writes a slot and the journal, and syncs them. A missing file reads as zeros, and what is written then is read.
-fn expect_written<C: Calls>(rt: &impl Abort, store: &mut FileStore<C>) {
-    assert!(rt; has(store, &slot_of(b"a", 3), 0));
-    assert!(rt; has(store, &slot_of(b"a", 3), 0));
-    assert!(rt; put(store, &slot_of(b"a", 3), 7));
-    assert!(rt; has(store, &slot_of(b"a", 3), 7));
-    assert!(rt; store.write(&Cell::Head, &[5; 32]).is_ok());
-    assert!(rt; store.write(&Cell::Gate, &[1]).is_ok());
-    assert!(rt; store.write(&Cell::Mark { n: 2 }, &[1]).is_ok());
-    assert!(rt; store.sync().is_ok());
+/// Whether a missing file reads as zeros, what is written then is read, and with the journal it is synced.
+fn written<C: Calls>(store: &mut FileStore<C>) -> bool {
+    let slot = slot_of(b"a", 3);
+    let read = has(store, &slot, 0) && has(store, &slot, 0);
+    let written = read && put(store, &slot, 7) && has(store, &slot, 7);
+    let head = written && store.write(&Cell::Head, &[5; 32]).is_ok();
+    let gate = head && store.write(&Cell::Gate, &[1]).is_ok();
+    gate && store.write(&Cell::Mark { n: 2 }, &[1]).is_ok() && store.sync().is_ok()
 }
 
-/// Asserts that these are read, and zeros beside them.
-fn expect_read_back<C: Calls>(rt: &impl Abort, store: &mut FileStore<C>) {
-    let cells: [(&[u8], u32, u8); 5] = [
-        (b"a", 3, 7),
-        (b"a", 2, 0),
-        (b"a", 9, 0),
-        (b"b", 0, 0),
-        (b"a", 3, 7),
-    ];
-    for (disk, slot, byte) in cells {
-        assert!(rt; has(store, &slot_of(disk, slot), byte));
-    }
+/// Whether a cell of one byte reads as this one.
+fn is_flag<C: Calls>(store: &mut FileStore<C>, cell: &Cell, flag: u8) -> bool {
     let mut byte = [9];
-    assert!(rt; store.read(&Cell::Gate, &mut byte).is_ok() && byte == [1]);
-    for (n, mark) in [(1, 0), (2, 1), (3, 0)] {
-        assert!(rt; store.read(&Cell::Mark { n }, &mut byte).is_ok() && byte == [mark]);
+    cell.len() == 1 && store.read(cell, &mut byte).is_ok() && byte == [flag]
+}
+
+/// Whether these are read, and zeros beside them.
+fn reads_back<C: Calls>(store: &mut FileStore<C>) -> bool {
+    let a = has(store, &slot_of(b"a", 3), 7) && has(store, &slot_of(b"a", 2), 0);
+    let b = a && has(store, &slot_of(b"a", 9), 0) && has(store, &slot_of(b"b", 0), 0);
+    let gate = b && has(store, &slot_of(b"a", 3), 7) && is_flag(store, &Cell::Gate, 1);
+    let marks = gate && is_flag(store, &Cell::Mark { n: 1 }, 0);
+    marks && is_flag(store, &Cell::Mark { n: 2 }, 1) && is_flag(store, &Cell::Mark { n: 3 }, 0)
+}
+
+/// Whether the file of this name has these bytes.
+fn stands(rt: &(impl AllocGlobal + Files), path: &str, bytes: &[u8]) -> bool {
+    match fs::read(rt, path) {
+        Ok(found) => found.as_slice() == bytes,
+        Err(_) => false,
     }
+}
+
+/// Whether the files have what was written: slot 3 ends at byte 16,384, and mark 2 stands at byte 1,536. A look made none.
+fn files_are_so(rt: &(impl AllocGlobal + Files)) -> bool {
+    let mut journal = [0; 1537];
+    journal[..32].copy_from_slice(&[5; 32]);
+    journal[512] = 1;
+    journal[1536] = 1;
+    let mut disk = [0; 16384];
+    disk[12288..].copy_from_slice(&[7; 4096]);
+    stands(rt, "a.disk", &disk) && stands(rt, "journal.mig", &journal) && is_absent(rt, "b.disk")
 }
 
 #[test]
 fn a_synced_cell_is_read_by_a_new_store(rt: HostRuntime) {
-    enter(&rt, "synced").expect(&rt, "a folder");
-    expect_written(&rt, &mut real_store(&rt));
-    expect_read_back(&rt, &mut real_store(&rt));
-    // the files themselves: slot 3 ends at byte 16,384, and mark 2 stands at byte 1,536
-    let disk = fs::read(&rt, "a.disk").expect(&rt, "a file");
-    assert!(rt; disk.len() == 16384);
-    for (i, byte) in disk.iter().enumerate() {
-        assert!(rt; *byte == if i < 12288 { 0 } else { 7 });
-    }
-    let journal = fs::read(&rt, "journal.mig").expect(&rt, "a file");
-    assert!(rt; journal.len() == 1537);
-    for (i, byte) in journal.iter().enumerate() {
-        let wanted = match i {
-            0..32 => 5,
-            512 | 1536 => 1,
-            _ => 0,
-        };
-        assert!(rt; *byte == wanted);
-    }
-    assert!(rt; fs::exists(&rt, "b.disk").is_ok_and(|is| !is));
-    leave(&rt, "synced").expect(&rt, "a folder");
+    assert!(rt; enter(&rt, "synced") && tried(&rt, Trial::Write) && tried(&rt, Trial::ReadBack));
+    assert!(rt; files_are_so(&rt) && leave(&rt, "synced"));
+}
+
+/// Whether what was synced is read where a crash leaves this.
+fn outlasts(rt: &(impl Abort + AllocGlobal), pick: FilePick) -> bool {
+    let mut store = store_over(rt, MemCalls::new(rt.alloc()));
+    let synced = written(&mut store);
+    reads_back(&mut crashed(rt, store, pick)) && synced
 }
 
 #[test]
 fn a_synced_cell_is_left_by_a_crash(rt: HostRuntime) {
-    for pick in [
-        FilePick::Old,
-        FilePick::New,
-        FilePick::Front,
-        FilePick::Back,
-        FilePick::Ones,
-    ] {
-        let mut store = mem_store(&rt, MemCalls::new(rt.alloc()));
-        expect_written(&rt, &mut store);
-        expect_read_back(&rt, &mut crashed(&rt, store, pick));
-    }
+    assert!(rt; outlasts(&rt, FilePick::Old) && outlasts(&rt, FilePick::New));
+    assert!(rt; outlasts(&rt, FilePick::Front) && outlasts(&rt, FilePick::Back));
+    assert!(rt; outlasts(&rt, FilePick::Ones));
 }
 
 /// The slot of this number of the disk that this number names.
@@ -107,79 +100,120 @@ fn slot_in(disk: u32, slot: u32) -> Cell {
     slot_of(&[digit(disk / 100), digit(disk / 10), digit(disk)], slot)
 }
 
-/// Writes a slot of each of so many disks, and syncs them, twice one of them.
-fn expect_many_written<C: Calls>(rt: &impl Abort, store: &mut FileStore<C>, disks: u32) {
+/// Whether a slot of each of so many disks is written and synced, twice one of them.
+fn many_written<C: Calls>(store: &mut FileStore<C>, disks: u32) -> bool {
+    let mut all = true;
     for d in 0..disks {
-        assert!(rt; put(store, &slot_in(d, 0), (d % 256) as u8));
+        all = put(store, &slot_in(d, 0), (d % 256) as u8) && all;
     }
-    assert!(rt; store.sync().is_ok());
-    assert!(rt; put(store, &slot_in(0, 1), 1) && has(store, &slot_in(0, 0), 0));
-    assert!(rt; store.sync().is_ok());
+    let again = all && store.sync().is_ok() && put(store, &slot_in(0, 1), 1);
+    again && has(store, &slot_in(0, 0), 0) && store.sync().is_ok()
 }
 
-/// Asserts that these are read.
-fn expect_many_read<C: Calls>(rt: &impl Abort, store: &mut FileStore<C>, disks: u32) {
+/// Whether these are read.
+fn many_read<C: Calls>(store: &mut FileStore<C>, disks: u32) -> bool {
+    let mut all = true;
     for d in 0..disks {
-        assert!(rt; has(store, &slot_in(d, 0), (d % 256) as u8));
+        all = has(store, &slot_in(d, 0), (d % 256) as u8) && all;
     }
-    assert!(rt; has(store, &slot_in(0, 1), 1) && has(store, &slot_in(1, 1), 0));
+    all && has(store, &slot_in(0, 1), 1) && has(store, &slot_in(1, 1), 0)
 }
+
+/// More disks than a store keeps files open.
+const MANY: u32 = MOST_OPEN as u32 + 50;
 
 #[test]
 fn more_disks_than_open_files(rt: HostRuntime) {
-    enter(&rt, "many").expect(&rt, "a folder");
-    let disks = MOST_OPEN as u32 + 50;
-    expect_many_written(&rt, &mut real_store(&rt), disks);
-    expect_many_read(&rt, &mut real_store(&rt), disks);
-    leave(&rt, "many").expect(&rt, "a folder");
+    assert!(rt; enter(&rt, "many") && tried(&rt, Trial::WriteMany(MANY)));
+    assert!(rt; tried(&rt, Trial::ReadMany(MANY)) && leave(&rt, "many"));
+}
+
+/// Whether twenty disks are written and read where so many files may be open, also after a crash.
+fn twenty_synced(rt: &(impl Abort + AllocGlobal), most_open: usize) -> bool {
+    let mut trouble = CallTrouble::none(rt.alloc());
+    trouble.most_open = most_open;
+    trouble.most_bytes = 1500;
+    trouble.interrupts = 5;
+    let mut calls = MemCalls::new(rt.alloc());
+    calls.trouble(trouble);
+    let mut store = store_over(rt, calls);
+    let synced = many_written(&mut store, 20) && many_read(&mut store, 20);
+    many_read(&mut crashed(rt, store, FilePick::Old), 20) && synced
 }
 
 #[test]
 fn more_disks_than_may_be_open(rt: HostRuntime) {
-    for most_open in [2, 3, 10] {
-        let mut trouble = CallTrouble::none(rt.alloc());
-        trouble.most_open = most_open;
-        trouble.most_bytes = 1500;
-        trouble.interrupts = 5;
-        let mut calls = MemCalls::new(rt.alloc());
-        calls.trouble(trouble);
-        let mut store = mem_store(&rt, calls);
-        expect_many_written(&rt, &mut store, 20);
-        expect_many_read(&rt, &mut store, 20);
-        expect_many_read(&rt, &mut crashed(&rt, store, FilePick::Old), 20);
+    assert!(rt; twenty_synced(&rt, 2) && twenty_synced(&rt, 3) && twenty_synced(&rt, 10));
+}
+
+/// Whether a slot is neither read nor written.
+fn refuses<C: Calls>(store: &mut FileStore<C>, cell: &Cell) -> bool {
+    !has(store, cell, 0) && !put(store, cell, 1)
+}
+
+/// Whether a slot that isn't there yet is read, and nothing is written, since the journal is another store's.
+fn only_reads<C: Calls>(store: &mut FileStore<C>) -> bool {
+    let cell = slot_of(b"a", 0);
+    has(store, &cell, 0) && !put(store, &cell, 1) && store.sync().is_err()
+}
+
+/// Whether the sync fails once the disk's file is exchanged, and then each call does.
+fn fails_exchanged<C: Calls>(rt: &impl Files, store: &mut FileStore<C>) -> bool {
+    let cell = &slot_of(b"a", 0);
+    let written = put(store, cell, 1) && store.write(&Cell::Gate, &[1]).is_ok();
+    let renamed = written && fs::rename(rt, "a.disk", "kept").is_ok();
+    let failed = renamed && store.sync().is_err() && fs::rename(rt, "kept", "a.disk").is_ok();
+    let refused = failed && !has(store, cell, 1) && !put(store, cell, 2);
+    refused && store.ended().is_err() && store.sync().is_err()
+}
+
+/// Whether links, another store's writes, and a file that was exchanged are refused.
+fn refused<C: Calls>(rt: &impl Files, store: &mut FileStore<C>, other: &mut FileStore<C>) -> bool {
+    // a link that leads nowhere, or to what is neither a file nor a disk: no file is made through it
+    let nowhere = symlink(rt, "nowhere", "b.disk").is_ok() && refuses(store, &slot_of(b"b", 0));
+    let null = symlink(rt, "/dev/null", "c.disk").is_ok() && refuses(store, &slot_of(b"c", 0));
+    let links = nowhere && null && is_absent(rt, "nowhere");
+    links && only_reads(other) && is_absent(rt, "a.disk") && fails_exchanged(rt, store)
+}
+
+/// Whether the slot holds what was written, and can be written over.
+fn written_over<C: Calls>(store: &mut FileStore<C>) -> bool {
+    let cell = slot_of(b"a", 0);
+    has(store, &cell, 1) && put(store, &cell, 2) && has(store, &cell, 2) && store.sync().is_ok()
+}
+
+/// What a store over real files does.
+enum Trial {
+    Write,
+    ReadBack,
+    WriteMany(u32),
+    ReadMany(u32),
+    WriteOver,
+}
+
+/// Whether the store does it.
+fn does<C: Calls>(store: &mut FileStore<C>, trial: Trial) -> bool {
+    match trial {
+        Trial::Write => written(store),
+        Trial::ReadBack => reads_back(store),
+        Trial::WriteMany(disks) => many_written(store, disks),
+        Trial::ReadMany(disks) => many_read(store, disks),
+        Trial::WriteOver => written_over(store),
     }
+}
+
+/// Whether a new store over real files does it.
+fn tried<R: Abort + AllocGlobal + Files<File = File> + Eprint>(rt: &R, trial: Trial) -> bool {
+    does(&mut real_store(rt), trial)
+}
+
+/// Whether a new store over real files refuses what it should, and another one meanwhile.
+fn refuses_all<R: Abort + AllocGlobal + Files<File = File> + Eprint>(rt: &R) -> bool {
+    refused(rt, &mut real_store(rt), &mut real_store(rt))
 }
 
 #[test]
 fn what_is_refused(rt: HostRuntime) {
-    enter(&rt, "refused").expect(&rt, "a folder");
-    let mut store = real_store(&rt);
-    // a link that leads nowhere, or to what is neither a file nor a disk: no file is made through it
-    for (name, to) in [("b", "nowhere"), ("c", "/dev/null")] {
-        let path = format!(in rt.alloc(); "{name}.disk").expect(&rt, "ample memory");
-        assert!(rt; symlink(&rt, to, path.as_str()).is_ok());
-        let cell = slot_of(name.as_bytes(), 0);
-        assert!(rt; !has(&mut store, &cell, 0) && !put(&mut store, &cell, 1));
-    }
-    assert!(rt; fs::exists(&rt, "nowhere").is_ok_and(|is| !is));
-    // the journal is this store's now: another one reads a slot that is not there yet, and writes nothing
-    let cell = slot_of(b"a", 0);
-    let mut other = real_store(&rt);
-    assert!(rt; has(&mut other, &cell, 0) && !put(&mut other, &cell, 1) && other.sync().is_err());
-    assert!(rt; fs::exists(&rt, "a.disk").is_ok_and(|is| !is));
-    // the disk's file is exchanged: its sync fails, and then each call does
-    assert!(rt; put(&mut store, &cell, 1) && store.write(&Cell::Gate, &[1]).is_ok());
-    assert!(rt; fs::rename(&rt, "a.disk", "kept").is_ok());
-    assert!(rt; store.sync().is_err());
-    assert!(rt; fs::rename(&rt, "kept", "a.disk").is_ok());
-    assert!(rt; !has(&mut store, &cell, 1) && !put(&mut store, &cell, 2));
-    assert!(rt; store.ended().is_err() && store.sync().is_err());
-    drop(store);
-    // the slot holds what was written, and can be written over
-    let mut store = real_store(&rt);
-    assert!(rt;
-        has(&mut store, &cell, 1) && put(&mut store, &cell, 2) && has(&mut store, &cell, 2)
-    );
-    assert!(rt; store.sync().is_ok());
-    leave(&rt, "refused").expect(&rt, "a folder");
+    assert!(rt; enter(&rt, "refused") && refuses_all(&rt));
+    assert!(rt; tried(&rt, Trial::WriteOver) && leave(&rt, "refused"));
 }

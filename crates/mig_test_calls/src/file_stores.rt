@@ -1,9 +1,8 @@
 //! The store over the working folder, and over files in memory.
 ghost use Rattle.std.specs.Prelude.{IsTrue, ℕ, List};
 ghost use Rattle.mig_calls.specs.declared.places.Place.TheVariants.{Disk as DiskFile};
-ghost use Rattle.mig_calls.specs.Memory.{files_state};
 
-use mig_calls::{FilePick, MemCalls};
+use mig_calls::{Calls, FilePick, MemCalls};
 use mig_files::{FileStore, NamedDisks};
 use mig_host::{HostSystem, SystemCalls};
 use std::fs::File;
@@ -11,22 +10,26 @@ use std::panic::Expect;
 use std::process::Abort;
 use std::rt::Files;
 
-/// The store over the working folder, by this runtime's files.
-pub type RealStore<'a, R> = FileStore<SystemCalls<HostSystem<'a, R>>>;
+/// The calls over the working folder, by this runtime's files.
+pub type RealCalls<'a, R> = SystemCalls<HostSystem<'a, R>>;
 
-/// A store over the working folder that has opened no file.
-pub fn real_store<'a, R: Abort + AllocGlobal + Files<File = File> + Eprint>(
-    rt: &'a R,
-) -> RealStore<'a, R> {
-    let calls = SystemCalls::new(HostSystem::new(rt, rt.alloc()));
+/// Calls over the working folder that have opened no file.
+pub fn real_calls<'a, R: AllocGlobal + Files<File = File> + Eprint>(rt: &'a R) -> RealCalls<'a, R> {
+    SystemCalls::new(HostSystem::new(rt, rt.alloc()))
+}
+
+/// A store over these calls that has opened no file.
+pub fn store_over<C: Calls + Drop>(rt: &(impl Abort + AllocGlobal), calls: C) -> FileStore<C>
+    requires { (disk : List ℕ) → IsTrue ((C.Calls.state calls).flushed (DiskFile disk)) }
+{
     FileStore::new(rt.alloc(), calls, NamedDisks::new(rt.alloc())).expect(rt, "ample memory")
 }
 
-/// A store over files in memory that has opened none.
-pub fn mem_store(rt: &(impl Abort + AllocGlobal), calls: MemCalls) -> FileStore<MemCalls>
-    requires { (disk : List ℕ) → IsTrue ((files_state calls).flushed (DiskFile disk)) }
-{
-    FileStore::new(rt.alloc(), calls, NamedDisks::new(rt.alloc())).expect(rt, "ample memory")
+/// A store over the working folder.
+pub fn real_store<'a, R: Abort + AllocGlobal + Files<File = File> + Eprint>(
+    rt: &'a R,
+) -> FileStore<RealCalls<'a, R>> {
+    store_over(rt, SystemCalls::new(HostSystem::new(rt, rt.alloc())))
 }
 
 /// A store over the files in memory that a crash of this one leaves.
@@ -35,8 +38,6 @@ pub fn crashed(
     store: FileStore<MemCalls>,
     pick: FilePick,
 ) -> FileStore<MemCalls> {
-    mem_store(
-        rt,
-        store.into_calls().crash(pick).expect(rt, "ample memory"),
-    )
+    let calls = store.into_calls().crash(pick).expect(rt, "ample memory");
+    store_over(rt, calls)
 }

@@ -1,13 +1,11 @@
-//! Tests alone: the calls of single crates, and over real files and in memory the folder, and the stores with the calls that they make.
-//! They stand apart from the crates of these calls, so that each of them is proved once.
+//! Tests alone: calls of single crates, and the store over files with the calls that it makes, over real files and in memory. They stand
+//! apart from the crates of these calls, so that each of them is proved once.
 #![tactic(auto)]
 
 #[cfg(test)]
 mod asked_items;
 #[cfg(test)]
 mod boards;
-#[cfg(test)]
-mod digests;
 #[cfg(test)]
 mod disk_files;
 #[cfg(test)]
@@ -16,10 +14,6 @@ mod file_stores;
 mod folders;
 #[cfg(test)]
 mod host_calls;
-#[cfg(test)]
-mod made_cases;
-#[cfg(test)]
-mod name_tables;
 #[cfg(test)]
 mod saves;
 #[cfg(test)]

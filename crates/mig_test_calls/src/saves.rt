@@ -1,6 +1,7 @@
 //! Saving a file by calls in memory, one of which fails.
 
-use mig_save::{MemSave, Unsaved, save_over};
+use mig_save::{MemSave, SaveCalls, Unsaved, save_over};
+use std::alloc::Global;
 use std::panic::Expect;
 
 const UNCHANGED: &str = "nothing was changed";
@@ -10,13 +11,22 @@ const OLD: &str = "the old file stands";
 const NEW: &str = "the new file stands";
 
 /// What a save of three bytes answers.
-fn answer_of(calls: &mut MemSave) -> &'static str {
+fn answer_of<C: SaveCalls>(calls: &mut C) -> &'static str {
     match save_over(calls, b"new") {
         Ok(_) => "saved",
         Err(Unsaved::Unchanged(_)) => UNCHANGED,
         Err(Unsaved::OldStands(_)) => OLD,
         Err(Unsaved::NewStands(_)) => NEW,
         Err(Unsaved::InPart(_)) => "a part may have been written",
+    }
+}
+
+/// Whether these bytes stand then, or no file does.
+fn stands(alloc: Global, calls: &MemSave, wanted: Option<&[u8]>) -> bool {
+    match calls.stands(alloc) {
+        Ok(Some(bytes)) => wanted == Some(bytes.as_slice()),
+        Ok(None) => wanted.is_none(),
+        Err(_) => false,
     }
 }
 
@@ -33,8 +43,7 @@ fn a_file_in_memory_is_the_old_or_the_new_one(rt: HostRuntime) {
             _ => ("saved", b"new"),
         };
         assert_eq!(rt; answer_of(&mut calls), wanted);
-        let stands = calls.stands(rt.alloc()).expect(&rt, "ample memory");
-        assert!(rt; stands.is_some_and(|stands| stands.as_slice() == bytes.as_slice()));
+        assert!(rt; stands(rt.alloc(), &calls, Some(bytes)));
     }
 }
 
@@ -49,10 +58,13 @@ fn a_new_file_in_memory_is_there_whole_or_not(rt: HostRuntime) {
             _ => "saved",
         };
         assert_eq!(rt; answer_of(&mut calls), wanted);
-        match calls.stands(rt.alloc()).expect(&rt, "ample memory") {
-            Some(stands) => assert!(rt; failing > 9 && stands.as_slice() == b"new".as_slice()),
-            None => assert!(rt; failing < 10),
-        }
+        assert!(rt;
+            stands(
+                rt.alloc(),
+                &calls,
+                (failing > 9).then_some(b"new".as_slice())
+            )
+        );
     }
 }
 

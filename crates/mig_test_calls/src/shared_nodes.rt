@@ -9,12 +9,9 @@ use std::prelude::HostRuntime;
 /// third copy has a node of its own.
 #[test]
 fn copies_share_nodes(rt: HostRuntime) {
-    let ends = [
-        (CopyId(0), CopyId(3)),
-        (CopyId(1), CopyId(3)),
-        (CopyId(2), CopyId(4)),
-        (CopyId(2), CopyId(5)),
-    ];
+    let [a, b, c] = [CopyId(0), CopyId(1), CopyId(2)];
+    let [d, e, f] = [CopyId(3), CopyId(4), CopyId(5)];
+    let ends = [(a, d), (b, d), (c, e), (c, f)];
     let sides = Sides {
         left: 3,
         nodes: 6,
@@ -22,11 +19,6 @@ fn copies_share_nodes(rt: HostRuntime) {
         homes: Vec::new(rt.alloc()),
     };
     let shared = share_nodes(rt.alloc(), &sides, 3).expect(&rt, "ample memory");
-    let wanted = [
-        (CopyId(0), CopyId(2)),
-        (CopyId(0), CopyId(2)),
-        (CopyId(1), CopyId(2)),
-        (CopyId(1), CopyId(3)),
-    ];
+    let wanted = [(a, c), (a, c), (b, c), (b, d)];
     assert!(&rt; shared.left == 2 && shared.nodes == 4 && shared.ends.as_slice() == &wanted[..]);
 }

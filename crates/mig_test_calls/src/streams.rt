@@ -2,6 +2,7 @@
 
 use mig_io::read_first;
 use mig_save::write_whole;
+use std::alloc::Global;
 use std::io::{self, ErrorKind, Read, Write};
 use std::panic::Expect;
 
@@ -66,33 +67,60 @@ impl Write for Scripted {
     }
 }
 
+/// Scripts, and what is read by them of five bytes, so many at most; None where the reader fails.
+static READS: [(&[u8], usize, Option<&[u8]>); 8] = [
+    (b"", 10, Some(b"abcde")),
+    (b"", 5, Some(b"abcde")),
+    (b"", 3, Some(b"abc")),
+    (b"", 0, Some(b"")),
+    (b"1ii1i", 10, Some(b"abcde")),
+    (b"110", 10, Some(b"ab")),
+    (b"11x", 2, Some(b"ab")),
+    (b"11x", 10, None),
+];
+
+/// Scripts, whether five bytes are written whole by them, and what is written.
+static WRITES: [(&[u8], bool, &[u8]); 5] = [
+    (b"", true, b"abcde"),
+    (b"i1ii1", true, b"abcde"),
+    (b"11x", false, b"ab"),
+    (b"110", false, b"ab"),
+    (b"0", false, b""),
+];
+
+/// Whether this is read.
+fn is_read(alloc: Global, from: &mut Scripted, most: usize, wanted: Option<&[u8]>) -> bool {
+    match read_first(alloc, from, most) {
+        Ok(got) => wanted == Some(got.as_slice()),
+        Err(_) => wanted.is_none(),
+    }
+}
+
+/// Whether five bytes are written whole, and this is written.
+fn is_written(out: &mut Scripted, whole: bool, wanted: &[u8]) -> bool {
+    write_whole(out, b"abcde").is_ok() == whole && out.bytes.as_slice() == wanted
+}
+
 #[test]
 fn one_byte_a_call(rt: HostRuntime) {
-    let reads: [(&'static [u8], usize, Option<&'static [u8]>); 8] = [
-        (b"", 10, Some(b"abcde")),
-        (b"", 5, Some(b"abcde")),
-        (b"", 3, Some(b"abc")),
-        (b"", 0, Some(b"")),
-        (b"1ii1i", 10, Some(b"abcde")),
-        (b"110", 10, Some(b"ab")),
-        (b"11x", 2, Some(b"ab")),
-        (b"11x", 10, None),
-    ];
-    for (script, most, wanted) in reads {
+    for (script, most, wanted) in &READS {
         let bytes = Vec::from_slice(rt.alloc(), b"abcde").expect(&rt, "ample memory");
-        let got = read_first(rt.alloc(), &mut Scripted::new(script, bytes), most).ok();
-        assert!(rt; got.as_ref().map(|bytes| bytes.as_slice()) == wanted);
+        assert!(rt;
+            is_read(
+                rt.alloc(),
+                &mut Scripted::new(script, bytes),
+                *most,
+                *wanted
+            )
+        );
     }
-    let writes: [(&'static [u8], bool, &'static [u8]); 5] = [
-        (b"", true, b"abcde"),
-        (b"i1ii1", true, b"abcde"),
-        (b"11x", false, b"ab"),
-        (b"110", false, b"ab"),
-        (b"0", false, b""),
-    ];
-    for (script, whole, written) in writes {
-        let mut out = Scripted::new(script, Vec::new(rt.alloc()));
-        let is_whole = write_whole(&mut out, b"abcde").is_ok();
-        assert!(rt; is_whole == whole && out.bytes.as_slice() == written);
+    for (script, whole, wanted) in &WRITES {
+        assert!(rt;
+            is_written(
+                &mut Scripted::new(script, Vec::new(rt.alloc())),
+                *whole,
+                wanted
+            )
+        );
     }
 }

@@ -2,8 +2,8 @@
 ghost use Rattle.std.specs.Prelude.{true, ⊤};
 ghost use Rattle.mig_host.specs.Untold.{untold};
 
-use mig_base::Name;
-use mig_calls::{CallError, Calls, Extent, Place};
+use crate::host_calls::disk_of;
+use mig_calls::{CallError, Calls, Extent};
 use mig_host::{Access, Handle, Kind, Stat, System, SystemCalls};
 use std::alloc::Global;
 use std::cell::Cell;
@@ -198,20 +198,19 @@ impl<'a> System for Told<'a> {
     fn say<D: Display + Drop>(&self, _: D) {}
 }
 
+const MOUNTS: &str = "/proc/self/mountinfo";
+
 /// The table of mounts where `/dev` is the system's own table of devices.
-const OWN: (&str, &str) = (
-    "/proc/self/mountinfo",
-    "21 28 0:6 / /dev rw - devtmpfs udev rw\n",
-);
+const OWN: (&str, &str) = (MOUNTS, "21 28 0:6 / /dev rw - devtmpfs udev rw\n");
 
 /// The same, and the device is mounted: its number is told, or the path of its node.
 const MOUNTED: (&str, &str) = (
-    "/proc/self/mountinfo",
+    MOUNTS,
     "21 28 0:6 / /dev rw - devtmpfs udev rw\n30 28 8:1 / /m rw - ext4 /dev/root rw\n",
 );
 
 const NAMED: (&str, &str) = (
-    "/proc/self/mountinfo",
+    MOUNTS,
     "21 28 0:6 / /dev rw - devtmpfs udev rw\n30 28 0:40 / /m rw - btrfs /dev/b\\0401 rw\n",
 );
 
@@ -221,10 +220,7 @@ static FREE: [(&str, &str); 1] = [OWN];
 static BUSY: [&[(&str, &str)]; 7] = [
     // the table of mounts can't be read, or tells of another /dev
     &[],
-    &[(
-        "/proc/self/mountinfo",
-        "21 28 0:7 / /dev rw - devtmpfs udev rw\n",
-    )],
+    &[(MOUNTS, "21 28 0:7 / /dev rw - devtmpfs udev rw\n")],
     &[MOUNTED],
     &[NAMED],
     // another one stands on it, or on a partition of it
@@ -243,14 +239,6 @@ static BUSY: [&[(&str, &str)]; 7] = [
         ("/sys/fs/btrfs/id/devices/b1/dev", "8:1\n"),
     ],
 ];
-
-/// The disk of this name.
-fn disk_of(name: &[u8]) -> Place {
-    match Name::read(name) {
-        Some(name) => Place::Disk(name),
-        None => Place::Journal,
-    }
-}
 
 /// The calls over such a system.
 fn calls_over<'a>(
@@ -295,6 +283,6 @@ fn a_sync_that_fails_is_noted(rt: HostRuntime) {
     let noted = Cell::new(false);
     let mut calls = calls_over(rt.alloc(), &FREE, 3, &noted);
     assert!(rt; calls.claim().is_ok() && !noted.get());
-    assert!(rt; calls.sync(&disk_of(b"c")) == Err(CallError::Failed));
-    assert!(rt; noted.get() && calls.claim() == Err(CallError::Failed));
+    let failed = Err(CallError::Failed);
+    assert!(rt; calls.sync(&disk_of(b"c")) == failed && noted.get() && calls.claim() == failed);
 }

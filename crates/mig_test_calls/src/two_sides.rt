@@ -4,6 +4,7 @@ use mig_base::{DiskId, EdgeId};
 use mig_csv::read_input;
 use mig_graph::Graph;
 use mig_sides::{SidesError, sides};
+use std::alloc::Global;
 use std::panic::Expect;
 
 /// Whether an edge joins the two disks.
@@ -34,13 +35,13 @@ fn is_odd_walk(graph: &Graph, walk: &[DiskId]) -> bool {
 
 /// Three files; and for each disk `=` where it is on the side of the first one, `x` where it isn't, and `-` where it takes no part; or
 /// where there are no sides, the disks that an odd walk has that shows it.
-static GRAPHS: [([&str; 3], &[u8], &[DiskId]); 4] = [
+static GRAPHS: [([&[u8]; 3], &[u8], &[DiskId]); 4] = [
     // three disks, each of which gives an item to the next
     (
         [
-            "disk,limit,slots\na,1,2\nb,1,2\nc,1,2\n",
-            "item,disk,slot\nx,a,0\ny,b,0\nz,c,0\n",
-            "item,disk\nx,b\ny,c\nz,a\n",
+            b"disk,limit,slots\na,1,2\nb,1,2\nc,1,2\n",
+            b"item,disk,slot\nx,a,0\ny,b,0\nz,c,0\n",
+            b"item,disk\nx,b\ny,c\nz,a\n",
         ],
         b"",
         &[DiskId(0), DiskId(1), DiskId(2)],
@@ -49,9 +50,9 @@ static GRAPHS: [([&str; 3], &[u8], &[DiskId]); 4] = [
     // begins at a disk from which one of them is met, and goes on
     (
         [
-            "disk,limit,slots\nidle,1,1\na,1,9\nb,1,9\nc,1,9\nd,1,9\ne,1,9\n",
-            "item,disk,slot\nv,a,0\nw,b,0\nx,c,0\ny,d,0\nz,e,0\n",
-            "item,disk\nv,b\nw,c\nx,d\ny,e\nz,c\n",
+            b"disk,limit,slots\nidle,1,1\na,1,9\nb,1,9\nc,1,9\nd,1,9\ne,1,9\n",
+            b"item,disk,slot\nv,a,0\nw,b,0\nx,c,0\ny,d,0\nz,e,0\n",
+            b"item,disk\nv,b\nw,c\nx,d\ny,e\nz,c\n",
         ],
         b"",
         &[],
@@ -59,9 +60,9 @@ static GRAPHS: [([&str; 3], &[u8], &[DiskId]); 4] = [
     // a disk that gives to three others, and one that takes no part
     (
         [
-            "disk,limit,slots\nh,4,9\np,1,3\nq,1,3\nr,1,3\ns,7,1\n",
-            "item,disk,slot\nt,h,0\nu,h,1\nv,h,2\nw,h,3\nx,h,4\ny,h,5\nz,h,6\nk,h,7\nl,h,8\n",
-            "item,disk\nt,p\nu,p\nv,p\nw,q\nx,q\ny,q\nz,r\nk,r\nl,r\n",
+            b"disk,limit,slots\nh,4,9\np,1,3\nq,1,3\nr,1,3\ns,7,1\n",
+            b"item,disk,slot\nt,h,0\nu,h,1\nv,h,2\nw,h,3\nx,h,4\ny,h,5\nz,h,6\nk,h,7\nl,h,8\n",
+            b"item,disk\nt,p\nu,p\nv,p\nw,q\nx,q\ny,q\nz,r\nk,r\nl,r\n",
         ],
         b"=xxx-",
         &[],
@@ -69,39 +70,39 @@ static GRAPHS: [([&str; 3], &[u8], &[DiskId]); 4] = [
     // a ring of four disks, in which items go both ways
     (
         [
-            "disk,limit,slots\na,1,9\nb,3,9\nc,1,9\nd,3,9\n",
-            "item,disk,slot\nw,a,0\nx,b,0\ny,c,0\nz,d,0\n",
-            "item,disk\nw,b\nx,c\ny,d\nz,a\n",
+            b"disk,limit,slots\na,1,9\nb,3,9\nc,1,9\nd,3,9\n",
+            b"item,disk,slot\nw,a,0\nx,b,0\ny,c,0\nz,d,0\n",
+            b"item,disk\nw,b\nx,c\ny,d\nz,a\n",
         ],
         b"=x=x",
         &[],
     ),
 ];
 
+/// Whether the graph has these sides, or an odd walk with these disks.
+fn is_told(alloc: Global, graph: &Graph, marks: &[u8], walked: &[DiskId]) -> bool {
+    match sides(alloc, graph) {
+        Ok(found) => {
+            let first = found.first().copied();
+            let is_so = |(side, mark): (&bool, &u8)| *mark == b'-'
+                || (first == Some(*side)) == (*mark == b'=');
+            found.len() == marks.len() && found.iter().zip(marks).all(is_so)
+        }
+        Err(SidesError::OddWalk { walk }) => {
+            let disks = walk.disks();
+            let met = walked.iter().all(|disk| disks.contains(disk));
+            met && marks.is_empty() && is_odd_walk(graph, disks)
+        }
+        Err(_) => false,
+    }
+}
+
 #[test]
 fn graphs_have_sides_or_an_odd_walk(rt: HostRuntime) {
     for ([disks, now, next], marks, walked) in &GRAPHS {
-        let read = read_input(
-            rt.alloc(),
-            disks.as_bytes(),
-            now.as_bytes(),
-            next.as_bytes(),
-        );
+        let read = read_input(rt.alloc(), disks, now, next);
         let input = read.expect(&rt, "an input");
         let graph = Graph::of(rt.alloc(), &input).expect(&rt, "ample memory");
-        match sides(rt.alloc(), &graph) {
-            Ok(found) => {
-                let first = found.first().copied();
-                let is_so = |(side, mark): (&bool, &u8)| *mark == b'-'
-                    || (first == Some(*side)) == (*mark == b'=');
-                assert!(rt; found.len() == marks.len() && found.iter().zip(*marks).all(is_so));
-            }
-            Err(SidesError::OddWalk { walk }) => {
-                let disks = walk.disks();
-                assert!(rt; marks.is_empty() && is_odd_walk(&graph, disks));
-                assert!(rt; walked.iter().all(|disk| disks.contains(disk)));
-            }
-            Err(_) => assert!(rt; false, "ample memory"),
-        }
+        assert!(rt; is_told(rt.alloc(), &graph, marks, walked));
     }
 }

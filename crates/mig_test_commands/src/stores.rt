@@ -1,8 +1,8 @@
 //! Stores in memory for small clusters.
 ghost use Rattle.std.specs.Prelude.{◌≡◌, []};
-ghost use Rattle.mig_base.specs.InputLists.{AreDifferent};
 ghost use Rattle.mig_store.specs.Memories.{aloft};
 
+use indexmap::IndexSet;
 use mig_base::{Cell, Name};
 use mig_store::MemStore;
 use std::panic::Expect;
@@ -16,43 +16,29 @@ pub fn slot_of(disk: u8, slot: u32) -> Cell {
     }
 }
 
-/// Cells that are different.
-#[derive(Drop)]
-struct Cells {
-    list: Vec<Cell>,
-    ghost different: { AreDifferent list.items },
-}
-
-impl Cells {
-    /// Adds a cell, if it isn't there.
-    fn add(&mut self, rt: &(impl Abort + AllocGlobal), cell: Cell) {
-        if !self.list.contains(&cell) {
-            self.list.push(cell).expect(rt, "ample memory");
-        }
-    }
-}
-
 /// The head, the gate, the first four marks, and the first four slots of the disks a, b and c.
-fn few_cells(rt: &(impl Abort + AllocGlobal)) -> Cells {
-    let list = Vec::new(rt.alloc());
-    let mut cells = Cells { list };
-    cells.add(rt, Cell::Head);
-    cells.add(rt, Cell::Gate);
+fn few_cells(rt: &(impl Abort + AllocGlobal)) -> IndexSet<Cell> {
+    let mut cells = IndexSet::new(rt.alloc());
+    cells.insert(Cell::Head).expect(rt, "ample memory");
+    cells.insert(Cell::Gate).expect(rt, "ample memory");
     for n in 0..4 {
-        cells.add(rt, Cell::Mark { n: n + 1 });
+        cells
+            .insert(Cell::Mark { n: n + 1 })
+            .expect(rt, "ample memory");
         for disk in [b'a', b'b', b'c'] {
-            cells.add(rt, slot_of(disk, n));
+            cells.insert(slot_of(disk, n)).expect(rt, "ample memory");
         }
     }
     cells
 }
 
+#[tactic(auto, using(mig_store::proofs::CellTables::different_cells))]
 /// A store of these cells, all zeros. Its calls with these numbers fail.
 pub fn store_of(rt: &(impl Abort + AllocGlobal), failing: &[u64]) -> MemStore
     ensures { aloft result ≡ [] }
 {
     let failing = Vec::from_slice(rt.alloc(), failing).expect(rt, "ample memory");
-    MemStore::new(rt.alloc(), &few_cells(rt).list, 200, failing).expect(rt, "ample memory")
+    MemStore::new(rt.alloc(), few_cells(rt).as_slice(), 200, failing).expect(rt, "ample memory")
 }
 
 /// SHA-256 of the plan of two rounds.

@@ -1,9 +1,9 @@
 //! Stores that are filled, and what they hold.
 ghost use Rattle.std.specs.Prelude.{◌≡◌, []};
-ghost use Rattle.mig_base.specs.InputLists.{AreDifferent};
 ghost use Rattle.mig_store.specs.Memories.{aloft};
 
 use crate::cases::{Case, Place};
+use indexmap::IndexSet;
 use mig_base::{Cell, Name};
 use mig_jobs::Job;
 use mig_store::{MemStore, Store};
@@ -29,32 +29,17 @@ pub fn made(item: u8) -> [u8; 4096] {
     slot
 }
 
-/// Cells that are different.
-#[derive(Drop)]
-struct Cells {
-    list: Vec<Cell>,
-    ghost different: { AreDifferent list.items },
-}
-
-impl Cells {
-    // Adds a cell, unless it is there.
-    fn add(&mut self, rt: &(impl Abort + AllocGlobal), cell: Cell) {
-        if !self.list.contains(&cell) {
-            self.list.push(cell).expect(rt, "ample memory");
-        }
-    }
-}
-
-// The head, the gate, the first three marks, and the first three slots of the disks a, b and c.
-fn few_cells(rt: &(impl Abort + AllocGlobal)) -> Cells {
-    let list = Vec::new(rt.alloc());
-    let mut cells = Cells { list };
-    cells.add(rt, Cell::Head);
-    cells.add(rt, Cell::Gate);
+/// The head, the gate, the first three marks, and the first three slots of the disks a, b and c.
+fn few_cells(rt: &(impl Abort + AllocGlobal)) -> IndexSet<Cell> {
+    let mut cells = IndexSet::new(rt.alloc());
+    cells.insert(Cell::Head).expect(rt, "ample memory");
+    cells.insert(Cell::Gate).expect(rt, "ample memory");
     for n in 0..3 {
-        cells.add(rt, Cell::Mark { n: n + 1 });
+        cells
+            .insert(Cell::Mark { n: n + 1 })
+            .expect(rt, "ample memory");
         for disk in [b'a', b'b', b'c'] {
-            cells.add(rt, slot_of(disk, n));
+            cells.insert(slot_of(disk, n)).expect(rt, "ample memory");
         }
     }
     cells
@@ -71,10 +56,11 @@ fn fill(rt: &(impl Abort + AllocGlobal), store: &mut MemStore, places: &[Place])
     }
 }
 
+#[tactic(auto, using(mig_store::proofs::CellTables::different_cells))]
 /// A store of these cells, whose items are filled and synced. Its calls with these numbers fail.
 pub fn filled(rt: &(impl Abort + AllocGlobal), places: &[Place], failing: &[u64]) -> MemStore {
     let failing = Vec::from_slice(rt.alloc(), failing).expect(rt, "ample memory");
-    let store = MemStore::new(rt.alloc(), &few_cells(rt).list, 200, failing);
+    let store = MemStore::new(rt.alloc(), few_cells(rt).as_slice(), 200, failing);
     let mut store = store.expect(rt, "ample memory");
     fill(rt, &mut store, places);
     assert!(rt; store.sync().is_ok());
@@ -83,13 +69,12 @@ pub fn filled(rt: &(impl Abort + AllocGlobal), places: &[Place], failing: &[u64]
 
 /// The item that is in a slot, or 0.
 pub fn item_at(places: &[Place], disk: u8, slot: u32) -> u8 {
-    match places
-        .iter()
-        .find(|place| place.0 == disk && place.1 == slot)
-    {
-        Some((_, _, item)) => *item,
-        None => 0,
+    for place in places {
+        if place.0 == disk && place.1 == slot {
+            return place.2;
+        }
     }
+    0
 }
 
 /// Whether the slots hold the items of these places, and else zeros.
