@@ -2,17 +2,17 @@
 use Rattle.mig_calls.proofs.Common.{Bool, Err, FilesChange, FilesLook, FilesState, IsLeftFilesBut, IsWithin, Ok, OnErr, OnOk, Place, PlaceBytes}
 use Rattle.mig_calls.proofs.Common.{Result, TouchesFile, arith, inl, inr, ℕ, ◌∙◌, ◌≡◌, ◌≤◌, ◌⊎◌}
 
-module _ {P : Place → ℕ → Type 0} {a b c : FilesState} (first : FilesChange P P a b) (second : FilesChange P P b c) where
-  back_two : (files : PlaceBytes) → IsLeftFilesBut P b files → IsLeftFilesBut P a files
+module _ {P Q : Place → ℕ → Type 0} {a b c : FilesState} (first : FilesChange P Q a b) (second : FilesChange P Q b c) where
+  back_two : (files : PlaceBytes) → IsLeftFilesBut Q b files → IsLeftFilesBut Q a files
   back_two files left =
       let before = first.crash left.0 left.1 in
       (before.0, before.1, λ place i out. left.2 place i out ∙ before.2 place i out)
 
-  since_two : (t : ℕ) (files : PlaceBytes) → t ≤ a.moment → b.left_since t files ⊎ IsLeftFilesBut P b files → a.left_since t files ⊎ IsLeftFilesBut P a files
+  since_two : (t : ℕ) (files : PlaceBytes) → t ≤ a.moment → b.left_since t files ⊎ IsLeftFilesBut Q b files → a.left_since t files ⊎ IsLeftFilesBut Q a files
   since_two t files le (inl left) = first.since t files le left
   since_two t files le (inr left) = inr (back_two files left)
 
-  pub change_then : FilesChange P P a c
+  pub change_then : FilesChange P Q a c
   change_then = record {
     told = second.told ∙ first.told;
     bytes = λ place i out. second.bytes place i out ∙ first.bytes place i out;

@@ -1,4 +1,5 @@
 pub mod Places
+pub mod SamePlaces
 pub mod Files
 pub mod Refusals
 pub mod FileBytes

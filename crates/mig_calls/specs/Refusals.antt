@@ -1,5 +1,5 @@
 -- When a store over files may refuse what no call failed at, and how that is counted.
-use Rattle.std.specs.Prelude.{◌≡◌, ◌+◌, ◌^◌, ◌<◌, ◌≤◌, ℕ, ⊤, Bool, true, false, IsTrue, List, if◌then◌else◌}
+use Rattle.std.specs.Prelude.{◌+◌, ◌^◌, ◌<◌, ◌≤◌, ℕ, ⊤, Bool, true, false, IsTrue, List, if◌then◌else◌}
 use Rattle.mig_base.specs.declared.cells.Cell.{Cell}
 use Rattle.mig_base.specs.Cells.{cell_len}
 use Rattle.mig_base.specs.Naming.{IsName}

@@ -9,7 +9,6 @@ mod mem_file;
 mod mem_files;
 mod memory;
 mod pick;
-mod place_table;
 mod places;
 mod refusals;
 mod trouble;

@@ -8,8 +8,8 @@ use crate::growing::push;
 use crate::mem_file::{Change, MemFile};
 use crate::mem_files;
 use crate::pick::FilePick;
-use crate::place_table::PlaceTable;
 use crate::places::Place;
+use mig_keys::KeyTable;
 use std::alloc::{AllocError, Global};
 use std::marker::Model;
 
@@ -28,7 +28,7 @@ pub enum FilesStep {
 #[derive(Drop)]
 pub struct MemDisk {
     alloc: Global,
-    table: PlaceTable,
+    table: KeyTable<Place>,
     files: Vec<MemFile>,
     steps: Vec<FilesStep>,
 }
@@ -54,7 +54,7 @@ impl MemDisk {
     {
         MemDisk {
             alloc,
-            table: PlaceTable::new(alloc),
+            table: KeyTable::new(alloc),
             files: Vec::new(alloc),
             steps: Vec::new(alloc),
         }
@@ -68,7 +68,7 @@ impl MemDisk {
             return Ok(());
         }
         self.files.reserve(1)?;
-        self.table.push(place)?;
+        self.table.push(*place)?;
         push(&mut self.files, MemFile::new(self.alloc, place));
         Ok(())
     }

@@ -5,12 +5,12 @@ ghost use Rattle.mig_calls.specs.MemFiles.{no_file, file_moment, changed, with_n
 
 use crate::mem_file::{Change, MemFile};
 use crate::pick::FilePick;
-use crate::place_table::PlaceTable;
 use crate::places::Place;
+use mig_keys::KeyTable;
 use std::alloc::{AllocError, Global};
 
 /// The file of a place.
-pub fn get<'a>(table: &PlaceTable, files: &'a [MemFile], place: &Place) -> Option<&'a MemFile>
+pub fn get<'a>(table: &KeyTable<Place>, files: &'a [MemFile], place: &Place) -> Option<&'a MemFile>
     requires { table.now ≡ map place_of (seen_files files.now) }
     ensures some { IfSome result (λ file. look (seen_files files.now) place.now ≡ file_moment file.now) }
     ensures none { IfNone result (look (seen_files files.now) place.now ≡ no_file) }
@@ -23,7 +23,7 @@ pub fn get<'a>(table: &PlaceTable, files: &'a [MemFile], place: &Place) -> Optio
 
 /// Changes the file of a place. An error is want of memory, or that there is no such place, and changes nothing.
 pub fn change(
-    table: &PlaceTable,
+    table: &KeyTable<Place>,
     files: &mut Vec<MemFile>,
     alloc: Global,
     place: &Place,

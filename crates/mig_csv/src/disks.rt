@@ -15,13 +15,13 @@ use crate::files::{has_sides, read_header};
 use crate::rows::{Records, field};
 use csv::ByteRecord;
 use mig_base::{Disk, FileKind, Limits, MAX_DISKS, MAX_LIMIT, MAX_SLOTS, Name, Why, read_digits};
-use mig_names::NameTable;
+use mig_keys::KeyTable;
 use std::alloc::{AllocError, Global};
 
 /// The disks of a disks file, and their names.
 #[derive(Drop)]
 pub(crate) struct DiskList {
-    pub(crate) names: NameTable,
+    pub(crate) names: KeyTable<Name>,
     pub(crate) disks: Vec<Disk>,
 }
 
@@ -32,7 +32,7 @@ impl DiskList {
         ensures disks { result.disks.items ≡ [] }
     {
         DiskList {
-            names: NameTable::new(alloc),
+            names: KeyTable::new(alloc),
             disks: Vec::new(alloc),
         }
     }
@@ -161,7 +161,7 @@ fn read_numbers(sides: bool, row: &ByteRecord) -> Option<Numbers>
 }
 
 /// The disk that a row lists, or the first cause that holds of it after rows of these names.
-fn read_disk(sides: bool, names: &NameTable, row: &ByteRecord) -> Result<Disk, Why>
+fn read_disk(sides: bool, names: &KeyTable<Name>, row: &ByteRecord) -> Result<Disk, Why>
     ensures value { IfOk result (λ d. d ≡ disk_of sides (fields_of row.now)) }
     ensures sound { IfOk result (λ _. (w : Why) → ¬ (DisksRowFault sides names.now (fields_of row.now) w)) }
     ensures cause { IfErr result (IsFirstCause (DisksRowFault sides names.now (fields_of row.now))) }

@@ -18,7 +18,7 @@ use crate::files::read_header;
 use crate::rows::{Records, field};
 use csv::ByteRecord;
 use mig_base::{DiskId, FileKind, MAX_DISKS, MAX_ITEMS, Name, Spot, Why, read_digits};
-use mig_names::{NameTable, SpotTable};
+use mig_keys::KeyTable;
 use std::alloc::{AllocError, Global};
 
 /// An item and where it is.
@@ -31,8 +31,8 @@ struct Placed {
 /// The items that rows of a now file list, and their spots.
 #[derive(Drop)]
 pub(crate) struct PlacedItems {
-    pub(crate) names: NameTable,
-    taken: SpotTable,
+    pub(crate) names: KeyTable<Name>,
+    taken: KeyTable<Spot>,
     pub(crate) items: Vec<Name>,
     pub(crate) spots: Vec<Spot>,
 }
@@ -46,8 +46,8 @@ impl PlacedItems {
         ensures spots { IfOk result (λ r. r.spots.items ≡ []) }
     {
         Ok(PlacedItems {
-            names: NameTable::with_capacity(alloc, rows)?,
-            taken: SpotTable::with_capacity(alloc, rows)?,
+            names: KeyTable::with_capacity(alloc, rows)?,
+            taken: KeyTable::with_capacity(alloc, rows)?,
             items: Vec::new(alloc),
             spots: Vec::new(alloc),
         })
@@ -137,8 +137,8 @@ fn likely_rows(bytes: usize) -> usize
 /// The item that a row lists and its spot, or the first cause that holds of the row after rows of these items and spots.
 fn read_item(
     disks: &DiskList,
-    items: &NameTable,
-    taken: &SpotTable,
+    items: &KeyTable<Name>,
+    taken: &KeyTable<Spot>,
     row: &ByteRecord,
 ) -> Result<Placed, Why>
     requires named { disks.now.names ≡ map (λ d. d.name) disks.now.disks.items }

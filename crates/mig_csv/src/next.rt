@@ -19,7 +19,7 @@ use crate::files::read_header;
 use crate::rows::{Records, field};
 use csv::ByteRecord;
 use mig_base::{DiskId, FileKind, MAX_DISKS, MAX_ITEMS, Name, Why};
-use mig_names::NameTable;
+use mig_keys::KeyTable;
 use std::alloc::Global;
 
 /// An item's place among the items, and the disk that it is to go to.
@@ -35,7 +35,7 @@ pub(crate) fn read_next(
     alloc: Global,
     bytes: &[u8],
     disks: &DiskList,
-    present: &NameTable,
+    present: &KeyTable<Name>,
 ) -> Result<Vec<Option<DiskId>>, InputError>
     requires named { disks.now.names ≡ map (λ d. d.name) disks.now.disks.items }
     requires few { length disks.now.disks.items ≤ MAX_DISKS }
@@ -58,7 +58,7 @@ fn set_next(
     records: &mut Records<'_>,
     row: &mut ByteRecord,
     disks: &DiskList,
-    present: &NameTable,
+    present: &KeyTable<Name>,
     next: &mut Vec<Option<DiskId>>,
 ) -> Result<(), InputError>
     requires named { disks.now.names ≡ map (λ d. d.name) disks.now.disks.items }
@@ -96,7 +96,7 @@ fn has_next(next: &[Option<DiskId>], place: Option<usize>) -> bool
 /// next disks. Often the row names the item of the same row of the now file, so it is looked for there first.
 fn read_way(
     disks: &DiskList,
-    present: &NameTable,
+    present: &KeyTable<Name>,
     next: &[Option<DiskId>],
     seen: usize,
     row: &ByteRecord,

@@ -45,7 +45,8 @@ pub use Rattle.mig_lanes.specs.LaneSteps.{FliesOn, later_rounds}
 pub use Rattle.mig_lanes.specs.Runs.{Finishes}
 pub use Rattle.mig_mover.proofs.TargetLaws.{in_round}
 pub use Rattle.mig_mover.specs.Moves.{Keeps}
-pub use Rattle.mig_store.proofs.CellTables.{different_cells, eq-same}
+pub use Rattle.mig_keys.proofs.KeyLists.{different_cells}
+pub use Rattle.mig_keys.specs.SameKeys.{same_cells}
 pub use Rattle.mig_store.specs.Asking.{CellBytes, fresh}
 pub use Rattle.mig_store.specs.Calls.{StoreCall}
 pub use Rattle.mig_store.specs.HeldCells.{held_at, zero_bytes, zero_held}

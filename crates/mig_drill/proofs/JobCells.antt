@@ -1,8 +1,8 @@
 -- The cells by which a plan is carried out, gathered one by one.
 use Rattle.mig_drill.proofs.Common.{Any, AreJobCells, Bool, Cell, Contains, Contains-append_left, Contains-from_any, Contains-push, Contains-push_cases, Flight, IsEndOf}
 use Rattle.mig_drill.proofs.Common.{AddsCells, IsJobCell, IsMark, List, Mark, None, Option, Shift, Some, Task, [], any_contains, ap, arith}
-use Rattle.mig_drill.proofs.Common.{cases_eq, cases_lt, cond, eq-same, eq-value, false, flight_of, flights_of, get_or, get_or_from_slice_get, get_or_past, inl, inr, insert_key, length}
-use Rattle.mig_drill.proofs.Common.{list_any, option_map, refl, round_at, slice_get, slice_get-get_or, slice_get-map, slice_get_within, slot_of, subst, suc, sym, true, zero, ℕ}
+use Rattle.mig_drill.proofs.Common.{cases_eq, cases_lt, cond, eq-value, false, flight_of, flights_of, get_or, get_or_from_slice_get, get_or_past, inl, inr, insert_key, length}
+use Rattle.mig_drill.proofs.Common.{list_any, option_map, refl, round_at, same_cells, slice_get, slice_get-get_or, slice_get-map, slice_get_within, slot_of, subst, suc, sym, true, zero, ℕ}
 use Rattle.mig_drill.proofs.Common.{⊎_elim, ◌++◌, ◌+◌, ◌<◌, ◌↔◌, ◌∙◌, ◌∷◌, ◌≡◌, ◌≤◌, ◌⊎◌}
 use Rattle.mig_base.specs.declared.cells.Cell.TheVariants.{Head, Gate}
 
@@ -22,7 +22,7 @@ module _ (P : Cell → Type 0) (old mid : List Cell) (joins : AddsCells P old mi
         λ any. elim any [
           | inl was ↦ (joins c).1 (inl was)
           | inr (inl p) ↦ (joins c).1 (inr p)
-          | inr (inr same) ↦ subst (λ (x : Cell). Contains mid x) (sym same) (Contains-from_any eq-same k mid has)
+          | inr (inr same) ↦ subst (λ (x : Cell). Contains mid x) (sym same) (Contains-from_any same_cells k mid has)
         ],
       )
       at false none = subst (λ (l : List Cell). Contains l c ↔ (Contains old c ⊎ (P c ⊎ (c ≡ k)))) (sym (ap (λ b. cond b mid (mid ++ k ∷ [])) none)) (

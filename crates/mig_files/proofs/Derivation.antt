@@ -7,7 +7,8 @@ use Rattle.mig_files.proofs.Common.{sym, zero, ℕ, ◌+◌, ◌<◌, ◌∙◌,
 use Rattle.mig_files.specs.Derived.{window}
 use Rattle.mig_files.specs.Sights.{on_told, window-has}
 use Rattle.mig_files.proofs.Apart.{apart}
-use Rattle.mig_files.proofs.FilesSteps.{change_then, look_is_write, bytes_before, told_before, told_after}
+use Rattle.mig_calls.proofs.FilesSteps.{change_then, look_change}
+use Rattle.mig_files.proofs.FilesSteps.{bytes_before, told_before, told_after}
 
 window-same : (f g : ℕ → ℕ) (at n : ℕ) → ((i : ℕ) → i < n → g (at + i) ≡ f (at + i)) → window g at n ≡ window f at n
 unfolding window
@@ -127,7 +128,7 @@ cell_written_at s cell {file} {at} bytes is_file is_at is_n has =
 pub write_at_cell : (cell : Cell) {file : Place} {at n : ℕ} {a b c : FilesState} → file ≡ file_of cell → at ≡ offset_of cell → n ≡ cell_len cell → FilesLook a b
     → FilesWrite file at n b c → FilesWrite (file_of cell) (offset_of cell) (cell_len cell) a c
 write_at_cell cell {file} {at} {n} {a} {b} {c} is_file is_at is_n look write =
-    change_then (look_is_write look)
+    change_then (look_change look)
     (subst (λ (m : ℕ). FilesWrite (file_of cell) (offset_of cell) m b c) is_n
     (subst (λ (k : ℕ). FilesWrite (file_of cell) k n b c) is_at (subst (λ (p : Place). FilesWrite p at n b c) is_file write)))
 

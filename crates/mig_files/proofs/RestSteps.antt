@@ -1,7 +1,8 @@
 -- How bytes are written, some at a time.
 use Rattle.mig_files.proofs.Common.{FilesState, HasBytes, IsTrue, IsWithin, IsWriteStep, List, Notes, Place, ap, arith, cases_lt, inl, inr, length, places, rules, slice_index, slice_range, sym}
 use Rattle.mig_files.proofs.Common.{ℕ, ◌+◌, ◌-◌, ◌<◌, ◌∙◌, ◌≡◌, ◌≤◌}
-use Rattle.mig_files.proofs.FilesSteps.{change_wide, told_before}
+use Rattle.mig_calls.proofs.FilesSteps.{change_within}
+use Rattle.mig_files.proofs.FilesSteps.{told_before}
 
 -- the bytes behind those that were written
 abbrev pub rest : List ℕ → ℕ → List ℕ
@@ -15,7 +16,7 @@ pub rest_step : (bytes : List ℕ) (done : ℕ) {t : Notes} {file : Place} {at :
     → IsWriteStep t file at (length bytes) a b
 rest_step bytes done {t} {file} {at} {a} {b} le step = record {
   tracked = step.tracked;
-  change = change_wide W W (IsWithin file at (length bytes)) wide wide a b step.change;
+  change = change_within wide step.change;
   later = step.later;
   more = step.more;
 }

@@ -1,10 +1,11 @@
 -- Where items were seen, and at how many slots.
-use Rattle.mig_files.proofs.Common.{AllByRecursion, AreCounted, Bool, Cell, Gate, Head, IfSome, IsDistinct, IsDistinct-head, IsDistinct-tail, IsElsewhere, IsTrue}
-use Rattle.mig_files.proofs.Common.{IsNotedAt, List, Mark, MatchBool, None, Option, Slot, Some, [], ap, arith, cond, eq-value, false, false≢true}
+use Rattle.mig_files.proofs.Common.{AllByRecursion, AreCounted, Bool, Cell, IfSome, IsDistinct, IsDistinct-head, IsDistinct-tail, IsElsewhere, IsTrue}
+use Rattle.mig_files.proofs.Common.{IsNotedAt, List, MatchBool, None, Option, Some, [], ap, arith, cond, eq-value, false, false≢true}
 use Rattle.mig_files.proofs.Common.{insert_entry, is_cell, is_cell-same, is_cell-true, is_item, keys_of, length, lookup, nat_eq}
 use Rattle.mig_files.proofs.Common.{nat_list_eq_equiv, one_if, pointwise, refl, same_text, seen_at, seen_in, sym, times, true, ℕ, ◌+◌, ◌<◌, ◌∙◌, ◌∷◌}
 use Rattle.mig_files.proofs.Common.{◌≡◌, ◌≤◌}
 use Rattle.mig_files.specs.Counting.{Counts, item_number}
+use Rattle.mig_keys.specs.SameKeys.{eq-is}
 use Rattle.std.proofs.Common.{not, position}
 use Rattle.std.specs.Prelude.{is_some}
 use Rattle.indexmap.proofs.MapLemmas.{Found-position, Missing-position, swap_remove_entry-found, swap_remove_entry-missing}
@@ -25,13 +26,6 @@ none_some is = cc
 
 abbrev eq : Cell → Cell → Bool
 eq = eq-value.it
-
-eq-is : (a b : Cell) → eq a b ≡ is_cell a b
-eq-is (Slot d s) (Slot e t) = refl
-eq-is Head Head = refl
-eq-is Gate Gate = refl
-eq-is (Mark m) (Mark n) = refl
-eq-is _ _ = refl
 
 abbrev same : List ℕ → List ℕ → Bool
 same = pointwise nat_eq

@@ -1,6 +1,6 @@
 -- How what calls leave goes one after another.
 use Rattle.mig_files.proofs.Common.{Bool, FilesState, IsQuiet, Leaves, Place, RetriedCall, ap, arith, ◌∙◌}
-use Rattle.mig_files.proofs.FilesSteps.{change_then}
+use Rattle.mig_calls.proofs.FilesSteps.{change_then}
 
 pub leaves_then : {task : RetriedCall} {a b c : FilesState} → Leaves task a b → Leaves task b c → Leaves task a c
 leaves_then first then = record {

@@ -5,7 +5,8 @@ use Rattle.mig_files.proofs.Common.{KeepsFlags, KeepsFlushed, Leaves, List, Mark
 use Rattle.mig_files.proofs.Common.{TouchesFile, WritesAlive, ap, arith, cases_Bool, cell_len, false, false≢true, file_of, inl, inr, offset_of, refl}
 use Rattle.mig_files.proofs.Common.{subst, sym, true, ℕ, ◌∙◌, ◌≡◌}
 use Rattle.mig_files.proofs.Derivation.{write_at_cell}
-use Rattle.mig_files.proofs.FilesSteps.{look_then, look_is_write, no_change, change_then}
+use Rattle.mig_calls.proofs.FilesSteps.{change_then, look_change}
+use Rattle.mig_files.proofs.FilesSteps.{no_change}
 
 -- a file that was synced doesn't undo what was
 pub flushed_kept : {place : Place} {a b : FilesState} → Leaves (Sync place) a b → IsTrue (b.flushed place) → KeepsFlushed a b
@@ -20,7 +21,7 @@ step_none is = record { tracked = is; change = no_change; later = omega arith; m
 pub step_then : {t u : Notes} {a b c : FilesState} → IsStep t a b → IsStep u b c → IsStep u a c
 step_then first then = record {
   tracked = then.tracked;
-  change = look_then first.change then.change;
+  change = change_then first.change then.change;
   later = omega (arith, first.later, then.later);
   more = omega (arith, first.more, then.more);
 }
@@ -116,7 +117,7 @@ place_written place {t} {u} {a} {b} is alive noted dirty unsynced claimed lost n
 
 -- what was only looked at is no write
 pub step_is_write : {t : Notes} {file : Place} {at n : ℕ} {a b : FilesState} → IsStep t a b → IsWriteStep t file at n a b
-step_is_write step = record { tracked = step.tracked; change = look_is_write step.change; later = step.later; more = step.more }
+step_is_write step = record { tracked = step.tracked; change = look_change step.change; later = step.later; more = step.more }
 
 pub write_step_then : {t u : Notes} {file : Place} {at n : ℕ} {a b c : FilesState} → IsWriteStep t file at n a b → IsWriteStep u file at n b c → IsWriteStep u file at n a c
 write_step_then first then = record {

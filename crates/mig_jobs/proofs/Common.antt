@@ -1,8 +1,8 @@
 -- The names that many proofs of this crate cite, from one place. Declares nothing.
-pub use Rattle.mig_base.proofs.Common.{All, All-append, All-map, Any, Any-from_list_any, AreDifferent, At, Bool, Contains, Contains-append_left, Contains-append_right, Contains-get_or}
+pub use Rattle.mig_base.proofs.Common.{All, All-append, All-map, Any, Any-from_list_any, At, Bool, Contains, Contains-append_left, Contains-append_right, Contains-get_or}
 pub use Rattle.mig_base.proofs.Common.{InputLists, IsInput, IsTaken, IsTrue, List, None, Option, Runs, Some, [], and_parts, ap, append-nil, append_assoc, arith, cases_Bool}
 pub use Rattle.mig_base.proofs.Common.{cases_eq, cases_lt, common_steps, cond, cond-false, cond-true, eq-eqb, eqb-true, false, false≢true, filter, filter_passes, flight_of, flights_of, get_or}
-pub use Rattle.mig_base.proofs.Common.{get_or-take, get_or_default, inl, inr, is_of, last_target, length, length-append, list_any, map}
+pub use Rattle.mig_base.proofs.Common.{get_or_default, inl, inr, is_of, last_target, length, length-append, list_any, map}
 pub use Rattle.mig_base.proofs.Common.{ne_eqb, no_spot, not, option_or, refl, round_at, shifts_of, slice_get, slice_get-get_or, slot_of, subst, suc, sym, take, take_all, take_more}
 pub use Rattle.mig_base.proofs.Common.{true, zero, ℕ, ⊎_elim, ◌&&◌, ◌++◌, ◌+◌, ◌-◌, ◌<◌, ◌==◌, ◌||◌, ◌↔◌, ◌∙◌, ◌∷◌, ◌≡◌, ◌≤◌, ◌⊎◌}
 pub use Rattle.mig_base.proofs.LayoutSteps.{At-item}
@@ -27,6 +27,5 @@ pub use Rattle.std.proofs.lemmas.List.{get_or-append_right, get_or_append_left}
 pub use Rattle.std.proofs.lemmas.List.Sorted.{IsPartitionPoint-from_clause}
 pub use Rattle.std.specs.List.Sorted.{IsPartitionPoint, IsPartitionedBy}
 pub use Rattle.std.proofs.lemmas.Grind.{flat_map-append}
-pub use Rattle.std.proofs.lemmas.List.{length-take}
 pub use Rattle.std.proofs.lemmas.List.Folds.{list_any-append, list_any_at}
 pub use Rattle.std.specs.Map.{lookup}

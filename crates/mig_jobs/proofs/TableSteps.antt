@@ -1,6 +1,6 @@
 -- How the tables of a job come to be.
-use Rattle.mig_jobs.proofs.Common.{Any-from_list_any, AreDifferent, At, At-item, Bool, Contains, InputLists, IsTrue, List, Runs, Shift, Spot, [], and_parts, ap, append-nil, arith, cases_Bool, cond}
-use Rattle.mig_jobs.proofs.Common.{eq-eqb, eqb-true, false, false≢true, flat_map-append, free_targets, get_or, get_or-take, get_or_default, inl, inr, leaves, length, length-take, list_any}
+use Rattle.mig_jobs.proofs.Common.{Any-from_list_any, At, At-item, Bool, Contains, InputLists, IsTrue, List, Runs, Shift, Spot, [], and_parts, ap, append-nil, arith, cases_Bool, cond}
+use Rattle.mig_jobs.proofs.Common.{eq-eqb, eqb-true, false, false≢true, flat_map-append, free_targets, get_or, get_or_default, inl, inr, leaves, length, list_any}
 use Rattle.mig_jobs.proofs.Common.{list_any_at, map, not, refl, round_at, same_spot, shifts_of, suc, sym, take, take_more, true, ℕ, ◌&&◌, ◌++◌, ◌+◌, ◌<◌, ◌==◌, ◌↔◌, ◌∙◌, ◌∷◌, ◌≡◌}
 
 -- Rounds
@@ -38,12 +38,6 @@ listed_is spots spot false is = elim (cases_Bool (list_any (same_spot spot) spot
   | inl has ↦ absurd (false≢true (is.1 (listed_has spots spot has)))
   | inr not ↦ not
 ]
-
--- a spot that comes later in a list of different ones isn't among the first
-pub not_before : (spots : List Spot) (i : ℕ) (spot : Spot) → AreDifferent spots → i < length spots → spot ≡ get_or spots i spot → Contains (take i spots) spot → ⊥
-not_before spots i spot different lt here has =
-    let low : has.0 < i = omega (arith, has.1, length-take i spots) in
-    different has.0 i spot low lt (sym (get_or-take i spots has.0 spot low) ∙ has.2 ∙ here)
 
 -- Targets
 

@@ -5,22 +5,11 @@ ghost use Rattle.mig_base.specs.Readiness.{shifts_of};
 ghost use Rattle.mig_jobs.specs.JobTables.{free_targets};
 
 use mig_base::{Input, Plan, Shift, Spot};
-use mig_names::SpotTable;
+use mig_keys::KeyTable;
 use std::alloc::{AllocError, Global};
 
-// The spots of now.
-fn spots_of(alloc: Global, input: &Input) -> Result<SpotTable, AllocError>
-    ensures { IfOk result (λ table. table ≡ input.now.spots) }
-{
-    let mut table = SpotTable::with_capacity(alloc, input.items().len())?;
-    for spot in input.now() {
-        table.push(*spot)?;
-    }
-    Ok(table)
-}
-
 // Adds a shift's target, if the table doesn't have it.
-fn add_target(table: &SpotTable, s: &Shift, targets: &mut Vec<Spot>) -> Result<(), AllocError>
+fn add_target(table: &KeyTable<Spot>, s: &Shift, targets: &mut Vec<Spot>) -> Result<(), AllocError>
     ensures { OnOk result (targets.new.items ≡ targets.old.items ++ free_targets table.now (s.now ∷ [])) }
 {
     if table.contains(&s.to) {
@@ -32,7 +21,7 @@ fn add_target(table: &SpotTable, s: &Shift, targets: &mut Vec<Spot>) -> Result<(
 
 // Adds the targets that the table doesn't have.
 fn add_targets(
-    table: &SpotTable,
+    table: &KeyTable<Spot>,
     shifts: &[Shift],
     targets: &mut Vec<Spot>,
 ) -> Result<(), AllocError>
@@ -48,7 +37,7 @@ fn add_targets(
 pub(crate) fn targets_of(alloc: Global, input: &Input, plan: &Plan) -> Result<Vec<Spot>, AllocError>
     ensures { IfOk result (λ targets. targets.items ≡ free_targets input.now.spots (shifts_of plan.now)) }
 {
-    let table = spots_of(alloc, input)?;
+    let table = KeyTable::of(alloc, input.now())?;
     let mut targets = Vec::new(alloc);
     for round in plan.rounds() {
         add_targets(&table, round.shifts(), &mut targets)?;

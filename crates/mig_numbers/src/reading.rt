@@ -12,7 +12,7 @@ use mig_base::{
 };
 use mig_csv::{InputError, check_room};
 use mig_gen::{make_items, numbered};
-use mig_names::SpotTable;
+use mig_keys::KeyTable;
 use std::alloc::{AllocError, Global};
 
 /// Whether there are too many disks or items.
@@ -79,7 +79,7 @@ fn spot_of(item: ItemNumbers) -> Spot
 /// What is wrong with the item at a place, where these spots are taken.
 fn item_fault(
     disks: &[DiskNumbers],
-    taken: &SpotTable,
+    taken: &KeyTable<Spot>,
     item: ItemNumbers,
     place: u32,
 ) -> Option<NumbersRefusal>
@@ -110,7 +110,7 @@ fn check_items(
     ensures sound { IfOk result (λ _. AreItemsSound disks.now items.now (length items.now)) }
     ensures fault { IfErr result (λ why. (why ≡ NumbersRefusal.Memory) ⊎ IsFirstItemFault disks.now items.now why) }
 {
-    let Ok(mut taken) = SpotTable::with_capacity(alloc, items.len()) else {
+    let Ok(mut taken) = KeyTable::with_capacity(alloc, items.len()) else {
         return Err(NumbersRefusal::Memory);
     };
     for (k, item) in items.iter().enumerate() {

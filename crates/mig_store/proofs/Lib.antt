@@ -1,5 +1,4 @@
 pub mod CellLists
-pub mod CellTables
 pub mod Common
 pub mod Crashes
 pub mod EntryLists

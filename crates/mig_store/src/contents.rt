@@ -8,9 +8,9 @@ ghost use Rattle.mig_store.specs.Entries.{firsts, seen_all, crash_entry, IsWithi
 
 use crate::block::Block;
 use crate::calls::{Act, CallRecord};
-use crate::cell_table::CellTable;
 use crate::held::{Held, get, zero_block};
 use mig_base::{Cell, Flight};
+use mig_keys::KeyTable;
 use std::alloc::{AllocError, Global};
 
 /// What each cell that isn't settled holds after a crash.
@@ -147,7 +147,7 @@ impl Entry {
 
 /// Records that a copy of what a read of its source gives was asked to begin, if the source is held.
 pub fn note_copy(
-    table: &CellTable,
+    table: &KeyTable<Cell>,
     held: &[Held<Entry>],
     calls: &mut CallRecord,
     flight: &Flight,
@@ -170,7 +170,7 @@ pub fn note_copy(
 
 /// Takes what the call at this place asks to be written to the cell, if it is held.
 pub fn ask_at(
-    table: &CellTable,
+    table: &KeyTable<Cell>,
     held: &mut Vec<Held<Entry>>,
     period: u64,
     cell: &Cell,
@@ -189,7 +189,7 @@ pub fn ask_at(
 }
 
 /// Shows the bytes that were asked to be written to the cell, if it is held and unsettled.
-pub fn land_at(table: &CellTable, held: &mut Vec<Held<Entry>>, period: u64, cell: &Cell)
+pub fn land_at(table: &KeyTable<Cell>, held: &mut Vec<Held<Entry>>, period: u64, cell: &Cell)
     requires cells { table.now ≡ map cell_of held.old.items }
     ensures seen { (calls : List StoreCall) → held_at (seen_all calls period held.new.items) ≡ change_at land cell.now (held_at (seen_all calls period held.old.items)) }
     ensures first { firsts held.new.items ≡ firsts held.old.items }

@@ -3,8 +3,8 @@ ghost use Rattle.std.specs.Prelude.{◌≡◌, None, Some, IfSome, IfNone, IfOk,
 ghost use Rattle.mig_store.specs.HeldCells.{cell_of, held_at, put_at, zero_bytes, zero_held};
 
 use crate::block::Block;
-use crate::cell_table::CellTable;
 use mig_base::Cell;
+use mig_keys::KeyTable;
 use std::alloc::{AllocError, Global};
 
 #[derive(Drop)]
@@ -14,7 +14,7 @@ pub struct Held<T> {
 }
 
 /// What is held of the cell.
-pub fn get<'a, T>(table: &CellTable, held: &'a [Held<T>], cell: &Cell) -> Option<&'a T>
+pub fn get<'a, T>(table: &KeyTable<Cell>, held: &'a [Held<T>], cell: &Cell) -> Option<&'a T>
     requires { table.now ≡ map cell_of held.now }
     ensures some { IfSome result (λ value. held_at held.now cell.now ≡ Some value.now) }
     ensures none { IfNone result (held_at held.now cell.now ≡ None) }
@@ -26,7 +26,7 @@ pub fn get<'a, T>(table: &CellTable, held: &'a [Held<T>], cell: &Cell) -> Option
 }
 
 /// Holds another value of the cell, if it is held.
-pub fn put<T: Drop>(table: &CellTable, held: &mut Vec<Held<T>>, cell: &Cell, value: T)
+pub fn put<T: Drop>(table: &KeyTable<Cell>, held: &mut Vec<Held<T>>, cell: &Cell, value: T)
     requires { table.now ≡ map cell_of held.old.items }
     ensures cells { map cell_of held.new.items ≡ map cell_of held.old.items }
     ensures held { held_at held.new.items ≡ put_at cell.now value (held_at held.old.items) }

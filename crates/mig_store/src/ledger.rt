@@ -12,18 +12,18 @@ ghost use Rattle.mig_store.specs.Asking.{picked};
 ghost use Rattle.mig_store.specs.Ledgers.{Log, is_sync, IsMoment, moment_of, reads, flying};
 
 use crate::calls::{Act, CallRecord};
-use crate::cell_table::CellTable;
 use crate::contents::{Entry, Pick, ask_at, crash_all, land_at, note_copy, zero_entries};
 use crate::growing::append;
 use crate::held::{Held, get};
 use mig_base::{Cell, Event, Flight};
+use mig_keys::KeyTable;
 use std::alloc::{AllocError, Global};
 use std::marker::Model;
 
 /// What was asked of the cells, and what they hold.
 #[derive(Drop)]
 pub struct Ledger {
-    table: CellTable,
+    table: KeyTable<Cell>,
     held: Vec<Held<Entry>>,
     /// One more than the number of syncs.
     period: u64,
@@ -76,7 +76,7 @@ impl Ledger {
         ensures { IfOk result (λ log. log ≡ record { first = map zero_held cells.now; calls = []; room = room }) }
     {
         Ok(Ledger {
-            table: CellTable::of(alloc, cells)?,
+            table: KeyTable::of(alloc, cells)?,
             held: zero_entries(alloc, cells)?,
             period: 1,
             calls: CallRecord::new(alloc, room)?,

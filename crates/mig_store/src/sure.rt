@@ -6,17 +6,17 @@ ghost use Rattle.mig_store.specs.HeldCells.{held_at, zero_held};
 ghost use Rattle.mig_store.specs.Sure.{sure_state, sure_is_state};
 
 use crate::block::Block;
-use crate::cell_table::CellTable;
 use crate::held::{Held, get, put, zero_cells};
 use crate::{Store, StoreFailed};
 use mig_base::{Cell, Name};
+use mig_keys::KeyTable;
 use std::alloc::{AllocError, Global};
 use std::marker::Model;
 
 /// A store in memory that never fails. It copies as soon as a copy is begun.
 #[derive(Drop)]
 pub struct SureStore {
-    table: CellTable,
+    table: KeyTable<Cell>,
     held: Vec<Held<Block>>,
 }
 
@@ -39,7 +39,7 @@ impl SureStore {
         ensures { IfOk result (λ store. store ≡ map zero_held cells.now) }
     {
         Ok(SureStore {
-            table: CellTable::of(alloc, cells)?,
+            table: KeyTable::of(alloc, cells)?,
             held: zero_cells(alloc, cells)?,
         })
     }

@@ -32,7 +32,7 @@ fn few_cells(rt: &(impl Abort + AllocGlobal)) -> IndexSet<Cell> {
     cells
 }
 
-#[tactic(auto, using(mig_store::proofs::CellTables::different_cells))]
+#[tactic(auto, using(mig_keys::proofs::KeyLists::different_cells))]
 /// A store of these cells, all zeros. Its calls with these numbers fail.
 pub fn store_of(rt: &(impl Abort + AllocGlobal), failing: &[u64]) -> MemStore
     ensures { aloft result ≡ [] }

@@ -56,7 +56,7 @@ fn fill(rt: &(impl Abort + AllocGlobal), store: &mut MemStore, places: &[Place])
     }
 }
 
-#[tactic(auto, using(mig_store::proofs::CellTables::different_cells))]
+#[tactic(auto, using(mig_keys::proofs::KeyLists::different_cells))]
 /// A store of these cells, whose items are filled and synced. Its calls with these numbers fail.
 pub fn filled(rt: &(impl Abort + AllocGlobal), places: &[Place], failing: &[u64]) -> MemStore {
     let failing = Vec::from_slice(rt.alloc(), failing).expect(rt, "ample memory");

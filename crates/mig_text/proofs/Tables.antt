@@ -34,9 +34,3 @@ pub next_disk : (disks : List Disk) (table : List (List ℕ)) (i : ℕ) (d : Dis
 next_disk disks table i d apart so_far lt is =
     let rest : map name_of_disk (drop i disks) ≡ d.name ∷ map name_of_disk (drop (suc i) disks) = ap (map name_of_disk) (drop-cons disks i d lt ∙ ap (λ x. x ∷ drop (suc i) disks) (sym is)) in
     not_before_in (map name_of_disk disks) table d.name (map name_of_disk (drop (suc i) disks)) apart (sym (ap (λ t. table ++ t) rest) ∙ so_far)
-
-pub next_item : (items : List Name) (table : List (List ℕ)) (i : ℕ) (n : Name) → AreDifferent items → table ++ drop i items ≡ items
-    → i < length items → n ≡ get_or items i n → Contains table n → ⊥
-next_item items table i n apart so_far lt is =
-    let rest : drop i items ≡ n ∷ drop (suc i) items = drop-cons items i n lt ∙ ap (λ x. x ∷ drop (suc i) items) (sym is) in
-    not_before_in items table n (drop (suc i) items) apart (sym (ap (λ t. table ++ t) rest) ∙ so_far)

@@ -6,15 +6,15 @@ ghost use Rattle.mig_base.specs.Texts.{disk_name, item_name};
 ghost use Rattle.mig_text.specs.Finding.{listed_names};
 
 use mig_base::{Disk, DiskId, Input, ItemId, Name};
-use mig_names::NameTable;
+use mig_keys::KeyTable;
 use std::alloc::{AllocError, Global};
 use std::marker::Model;
 
 /// Finds the disks and items of an input by name.
 pub struct Finder<'a> {
     input: &'a Input,
-    disks: NameTable,
-    items: NameTable,
+    disks: KeyTable<Name>,
+    items: KeyTable<Name>,
 }
 
 impl Drop for Finder<'_> {
@@ -47,7 +47,7 @@ impl<'a> Finder<'a> {
         Ok(Finder {
             input,
             disks: disk_names(alloc, input.disks())?,
-            items: item_names(alloc, input.items())?,
+            items: KeyTable::of(alloc, input.items())?,
         })
     }
 
@@ -88,7 +88,7 @@ impl<'a> Finder<'a> {
 }
 
 /// The place of the name with these bytes.
-fn place(table: &NameTable, word: &[u8]) -> Option<usize>
+fn place(table: &KeyTable<Name>, word: &[u8]) -> Option<usize>
     requires { All IsName table.now }
     ensures { MatchOption result (¬ (Contains table.now word.now)) (λ k. slice_get table.now k ≡ Some word.now) }
 {
@@ -97,25 +97,13 @@ fn place(table: &NameTable, word: &[u8]) -> Option<usize>
 }
 
 /// The names of disks.
-fn disk_names(alloc: Global, disks: &[Disk]) -> Result<NameTable, AllocError>
+fn disk_names(alloc: Global, disks: &[Disk]) -> Result<KeyTable<Name>, AllocError>
     requires { AreDifferent (listed_names disks.now) }
     ensures { IfOk result (λ t. t ≡ listed_names disks.now) }
 {
-    let mut table = NameTable::with_capacity(alloc, disks.len())?;
+    let mut table = KeyTable::with_capacity(alloc, disks.len())?;
     for disk in disks {
         table.push(disk.name)?;
-    }
-    Ok(table)
-}
-
-/// The names of items.
-fn item_names(alloc: Global, items: &[Name]) -> Result<NameTable, AllocError>
-    requires { AreDifferent items.now }
-    ensures { IfOk result (λ t. t ≡ items.now) }
-{
-    let mut table = NameTable::with_capacity(alloc, items.len())?;
-    for item in items {
-        table.push(*item)?;
     }
     Ok(table)
 }

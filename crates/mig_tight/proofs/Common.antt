@@ -22,11 +22,11 @@ pub use Rattle.mig_tight.specs.Spares.{AreEnds, IsBefore, SparesBefore, spot}
 pub use Rattle.mig_base.specs.TightPlans.{Fits, HasFreeSlot, HasMove, IsTightPlan, parked, slots_of, wanted}
 pub use Rattle.mig_tight.specs.Causes.{HasNoPlanUnlessMemory, IsNoFreeOrMemory, IsTightCause, IsTooManyOrMemory}
 pub use Rattle.std.proofs.Common.{All, AllPairs, Bool, Contains, Err, Global, IfErr, IfOk, List, Ok, Option, Result, Some, Vec, [], ap, arith, cond, count_by, eq-eqb, eqb, false, get_or, inl}
-pub use Rattle.std.proofs.Common.{inr, length, length-append, length-set, map, not, refl, set, slice_get, subst, suc, sum_by, sym, take, true, zero, ℕ, ⊎_elim, ◌&&◌, ◌++◌, ◌+◌, ◌<◌, ◌∙◌}
+pub use Rattle.std.proofs.Common.{inr, length, length-append, length-set, map, not, refl, set, slice_get, subst, suc, sum_by, sym, true, zero, ℕ, ⊎_elim, ◌&&◌, ◌++◌, ◌+◌, ◌<◌, ◌∙◌}
 pub use Rattle.std.proofs.Common.{◌∷◌, ◌≡◌, ◌≢◌, ◌≤◌, ◌⊎◌}
 pub use Rattle.std.proofs.lemmas.Bool.{cases_eq, cases_lt, false≢true, ne_eqb}
 pub use Rattle.std.proofs.lemmas.Bool.Decides.{nat_tests}
-pub use Rattle.std.proofs.lemmas.List.{get_or-map, get_or-set_other, get_or-set_same, get_or-take, get_or_append_left, get_or_default, get_or_push, get_or_read, length-map, length-take}
+pub use Rattle.std.proofs.lemmas.List.{get_or-map, get_or-set_other, get_or-set_same, get_or_append_left, get_or_default, get_or_push, get_or_read, length-map}
 pub use Rattle.std.proofs.lemmas.List.Elements.{All-append, All-cons, All-contains, All-head, All-map, All-nil, All-push, All-set, Contains-append_left, Contains-append_right}
 pub use Rattle.std.proofs.lemmas.List.Elements.{Contains-get_or, Contains-push, Contains-push_cases}
 pub use Rattle.std.proofs.lemmas.List.FromFn.{fill_by_all, get_or-range_with_len, length-range_with_len}

@@ -1,9 +1,9 @@
 -- The free slots of the disks, slot by slot.
-use Rattle.mig_tight.proofs.Common.{All, All-append, All-map, All-push, All-weaker, AreCounts, AreDifferent, AreEnds, ArePlaced, Contains}
+use Rattle.mig_tight.proofs.Common.{All, All-append, All-map, All-push, All-weaker, AreCounts, AreEnds, ArePlaced, Contains}
 use Rattle.mig_tight.proofs.Common.{Contains-append_left, Contains-append_right, Contains-push, DiskId, HasSpares, InputLists, IsBefore, IsInput}
-use Rattle.mig_tight.proofs.Common.{List, SparesBefore, Spot, [], ap, arith, cases_eq, count_by-le-length, eqb, first_slots, get_or, get_or-take, inl}
-use Rattle.mig_tight.proofs.Common.{inr, length, length-append, length-map, length-take, map, occurrences, one, pigeons, refl, spot, spot_by}
-use Rattle.mig_tight.proofs.Common.{spot_disk, subst, sum_by-append, sum_by-map, sym, take, ℕ, ⊎_elim, ◌++◌, ◌+◌, ◌<◌, ◌∷◌, ◌≡◌, ◌⊎◌}
+use Rattle.mig_tight.proofs.Common.{List, SparesBefore, Spot, [], ap, arith, cases_eq, count_by-le-length, eqb, first_slots, get_or, inl}
+use Rattle.mig_tight.proofs.Common.{inr, length, length-append, length-map, map, occurrences, one, pigeons, refl, spot, spot_by}
+use Rattle.mig_tight.proofs.Common.{spot_disk, subst, sum_by-append, sum_by-map, sym, ℕ, ⊎_elim, ◌++◌, ◌+◌, ◌<◌, ◌∷◌, ◌≡◌, ◌⊎◌}
 use Rattle.mig_base.proofs.SlotCounts.{spot_is_of}
 use Rattle.mig_tight.proofs.FirstQueues.{apart_push}
 
@@ -85,7 +85,3 @@ module _ (input : InputLists) (is : IsInput input) (d : ℕ) (spares : List Spot
             (λ c. Contains-append_right input.spots spares (spot v s) c)
             (b.full v s l m (inl (omega (arith, l, all))))),
       )
-
--- a spot isn't among those before it
-pub not_before_it : (spots : List Spot) (i : ℕ) (spot : Spot) → AreDifferent spots → i < length spots → spot ≡ get_or spots i spot → Contains (take i spots) spot → ⊥
-not_before_it spots i spot different lt here has = grind (arith, length-take, get_or-take)

@@ -4,7 +4,7 @@ ghost use Rattle.mig_tight.specs.PlanStates.{ArePlaced, HasSpares, first_slots};
 ghost use Rattle.mig_tight.specs.Spares.{AreEnds, AreSearchWidths, SparesBefore};
 
 use mig_base::{DiskId, Input, Spot};
-use mig_names::SpotTable;
+use mig_keys::KeyTable;
 use mig_split::count_disks;
 use std::alloc::{AllocError, Global};
 
@@ -37,21 +37,10 @@ fn widths_of(alloc: Global, input: &Input) -> Result<Vec<u32>, AllocError>
     Ok(widths)
 }
 
-/// The spots where items are now.
-fn spots_of(alloc: Global, input: &Input) -> Result<SpotTable, AllocError>
-    ensures { IfOk result (λ table. table ≡ input.now.spots) }
-{
-    let mut table = SpotTable::with_capacity(alloc, input.items().len())?;
-    for spot in input.now() {
-        table.push(*spot)?;
-    }
-    Ok(table)
-}
-
 /// Adds the free slots among so many first slots of a disk.
 fn add_free(
     input: &Input,
-    taken: &SpotTable,
+    taken: &KeyTable<Spot>,
     disk: DiskId,
     width: u32,
     spares: &mut Vec<Spot>,
@@ -79,7 +68,7 @@ pub fn free_spots(alloc: Global, input: &Input) -> Result<Vec<Spot>, AllocError>
 {
     input.keeps_rules();
     let widths = widths_of(alloc, input)?;
-    let taken = spots_of(alloc, input)?;
+    let taken = KeyTable::of(alloc, input.now())?;
     let mut spares = Vec::new(alloc);
     for disk in 0..widths.len() {
         add_free(

@@ -1,5 +1,6 @@
 use Rattle.mig_files.proofs.Common.{file_of}
-use Rattle.mig_files.proofs.FilesSteps.{look_then, told_before}
+use Rattle.mig_calls.proofs.FilesSteps.{change_then}
+use Rattle.mig_files.proofs.FilesSteps.{told_before}
 use Rattle.mig_files.proofs.Derivation.{end_after}
 use Rattle.mig_files.proofs.Headers.{header_after, held_after, held_before, on_any}
 use Rattle.mig_files.proofs.Grounds.{fault_after}
@@ -12,7 +13,7 @@ check_held-requires-clause-header g c = header_after c.header_there.ensures.step
 
 pub note_held-requires-clause-end : goal.note_held-requires-clause-end
 note_held-requires-clause-end g c =
-    end_after (look_then c.header_there.ensures.step.change c.check_held.ensures.step.change) (file_of c.args.slot.now) _ c.in_ok-found.ensures.end
+    end_after (change_then c.header_there.ensures.step.change c.check_held.ensures.step.change) (file_of c.args.slot.now) _ c.in_ok-found.ensures.end
 
 pub note_held-requires-clause-holds : goal.note_held-requires-clause-holds
 note_held-requires-clause-holds g c = λ told.

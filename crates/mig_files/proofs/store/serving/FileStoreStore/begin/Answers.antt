@@ -1,5 +1,5 @@
 use Rattle.mig_files.proofs.Common.{[], began, ◌∷◌}
-use Rattle.mig_files.proofs.FilesSteps.{look_is_write}
+use Rattle.mig_calls.proofs.FilesSteps.{look_change}
 use Rattle.mig_files.proofs.Derivation.{cell_changes}
 use Rattle.mig_files.proofs.Headers.{on_any}
 use Rattle.mig_files.proofs.store.serving.FileStoreStore.begin.Goals as goal
@@ -8,7 +8,7 @@ pub returns-then-self-clause-change : goal.returns-then-self-clause-change
 returns-then-self-clause-change g c = (
   1,
   cell_changes c.args.to.now (began (record { from = c.args.from.now; to = c.args.to.now }) ∷ []) (g.met.C.Calls.is_state c.args.self.now.calls)
-      (look_is_write c.refuse_with.ensures.step.change),
+      (look_change c.refuse_with.ensures.step.change),
 )
 
 pub returns-clause-begun : goal.returns-clause-begun

@@ -1,3 +1,0 @@
-pub mod NameLists
-pub mod SpotLists
-pub mod Common
